@@ -1,0 +1,7 @@
+pub mod TableTest
+pub mod DigitMasks
+pub mod ProductLaws
+pub mod InverseLaws
+pub mod AffineLaws
+pub mod ColumnLaws
+pub mod Document03Laws

@@ -1,0 +1,3 @@
+pub mod Digit
+pub mod Additive
+pub mod Sums
