@@ -1,0 +1,12 @@
+pub mod RunsLaws
+pub mod RunningLaws
+pub mod OrderLaws
+pub mod PlaceLaws
+pub mod JoinLaws
+pub mod CountLaws
+pub mod MaskLaws
+pub mod Missed
+pub mod Unseen
+pub mod SheetLaws
+pub mod Hiding
+pub mod Document03Laws

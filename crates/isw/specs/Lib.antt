@@ -1,0 +1,3 @@
+pub mod Place
+pub mod Hiding
+pub mod Document03
