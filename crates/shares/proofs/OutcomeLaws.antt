@@ -1,0 +1,158 @@
+-- Which outcome `guarded` gives, from the answers of the code's own tests. Assumes nothing.
+use mathlib.Core.Path.{_≡_, refl, sym, ap, ap₂, _∙_}
+use mathlib.Core.Bool.{Bool, true, false, cond, not, _||_}
+use mathlib.Core.List.{List}
+use Prim.Native.Nat.{ℕ, zero, suc, _*_, _≤_, _<_}
+use native.Mathlib.Omega.{arith}
+use lib.Dec.{ltb, eqb}
+use borrow.Author.Tests.{eqb-true, eqb-false, ltb-false, le-ltb, eq-eqb, ne-eqb}
+use Rattle.shares.specs.declared.Refusal.{Refusal}
+use Rattle.shares.specs.declared.Refusal.the-variants.{Key, Input, Output, Tape}
+use Rattle.shares.specs.declared.Answer.{Answer}
+use Rattle.shares.specs.declared.Answer.the-variants.{Taken, Refused}
+use Rattle.shares.specs.Outcome.{Outcome, done, refused, number, outcome, unserved, guarded, check, share-length}
+
+clash : true ≡ false → ⊥
+clash e = let z : _≡_ {A = ℕ} 0 1 = cc in omega arith
+
+never : (r : Refusal) (k : ℕ) → Refused r ≡ Taken k → ⊥
+never r k e = let z : _≡_ {A = ℕ} 0 1 = cc in omega arith
+
+not-done : (n : ℕ) (o : List ℕ) (k : ℕ) (q : List ℕ) → refused n o ≡ done k q → ⊥
+not-done n o k q e = let z : _≡_ {A = ℕ} 0 1 = cc in omega arith
+
+-- ---- the order
+
+pub served-bounds : (d : ℕ) → unserved d ≡ false → (1 ≤ d) × (d ≤ 8)
+unfolding unserved
+served-bounds d e = go (eqb d 0) refl (ltb 8 d) refl e
+  where
+    go : (a : Bool) → eqb d 0 ≡ a → (b : Bool) → ltb 8 d ≡ b → (a || b) ≡ false → (1 ≤ d) × (d ≤ 8)
+    go true p b q e = absurd (clash e)
+    go false p true q e = absurd (clash e)
+    go false p false q e = let z = eqb-false d 0 p in (omega arith, ltb-false 8 d q)
+
+-- ---- refusals 1 to 5
+
+-- an answer, with the output as it was or as it is made
+abbrev ends : Answer → (output made : List ℕ) → Outcome
+ends (Taken k) o made = done k made
+ends (Refused r) o made = refused (number r) o
+
+module _ (d : ℕ) (key input room : Bool) (tape need : ℕ) (o made : List ℕ) where
+  pub guarded-unserved : unserved d ≡ true → refused 1 o ≡ guarded d key input room tape need o made
+  unfolding guarded
+  guarded-unserved e = simp e
+
+  module _ (served : unserved d ≡ false) where
+    -- past the order, `check` decides
+    guarded-check : guarded d key input room tape need o made ≡ ends (check key input room tape need) o made
+    unfolding guarded check
+    guarded-check = simp served (go key input room (ltb tape need))
+      where
+        go : (k i r t : Bool)
+            → cond (not k) (refused 2 o) (cond (not i) (refused 3 o) (cond (not r) (refused 4 o) (cond t (refused 5 o) (done need made))))
+            ≡ ends (cond (not k) (Refused Key) (cond (not i) (Refused Input) (cond (not r) (Refused Output) (cond t (Refused Tape) (Taken need))))) o made
+        go false i r t = refl
+        go true false r t = refl
+        go true true false t = refl
+        go true true true true = refl
+        go true true true false = refl
+
+    module _ (a : Answer) (e : a ≡ check key input room tape need) where
+      -- a refusal is the call's
+      pub guarded-refused : (r : Refusal) → a ≡ Refused r → outcome a o ≡ guarded d key input room tape need o made
+      guarded-refused r f =
+          ap (λ (x : Answer). outcome x o) f ∙ ap (λ (x : Answer). ends x o made) (sym f ∙ e) ∙ sym guarded-check
+
+      -- a call that is let through is done
+      pub guarded-done : (k j : ℕ) (q : List ℕ) → a ≡ Taken k → j ≡ k → q ≡ made → done j q ≡ guarded d key input room tape need o made
+      guarded-done k j q f p s = ap₂ done p s ∙ ap (λ (x : Answer). ends x o made) (sym f ∙ e) ∙ sym guarded-check
+
+-- what is known where the check lets a call through
+pub check-taken : (key input room : Bool) (tape need k : ℕ) → check key input room tape need ≡ Taken k
+    → (key ≡ true) × (input ≡ true) × (room ≡ true) × (need ≤ tape) × (k ≡ need)
+unfolding check
+check-taken key input room tape need k e = go key input room (ltb tape need) refl e
+  where
+    go : (y i r t : Bool) → ltb tape need ≡ t
+        → cond (not y) (Refused Key) (cond (not i) (Refused Input) (cond (not r) (Refused Output) (cond t (Refused Tape) (Taken need)))) ≡ Taken k
+        → (y ≡ true) × (i ≡ true) × (r ≡ true) × (need ≤ tape) × (k ≡ need)
+    go false i r t p e = absurd (never Key k e)
+    go true false r t p e = absurd (never Input k e)
+    go true true false t p e = absurd (never Output k e)
+    go true true true true p e = absurd (never Tape k e)
+    go true true true false p e = (refl, refl, refl, ltb-false tape need p, cc)
+
+-- ---- lengths of strings
+
+first : (n : ℕ) → share-length n (n * 16) ≡ 16
+unfolding share-length
+first n = simp (eq-eqb (n * 16) (n * 16) refl)
+
+second : (n : ℕ) → 0 < n → share-length n (n * 24) ≡ 24
+unfolding share-length
+second n h = let a : n * 24 ≡ n * 16 → ⊥ = λ e. omega arith in simp (ne-eqb (n * 24) (n * 16) a, eq-eqb (n * 24) (n * 24) refl)
+
+third : (n : ℕ) → 0 < n → share-length n (n * 32) ≡ 32
+unfolding share-length
+third n h =
+    let a : n * 32 ≡ n * 16 → ⊥ = λ e. omega arith in
+    let b : n * 32 ≡ n * 24 → ⊥ = λ e. omega arith in
+    simp (ne-eqb (n * 32) (n * 16) a, ne-eqb (n * 32) (n * 24) b, eq-eqb (n * 32) (n * 32) refl)
+
+-- a share's length is one of three
+pub share-length-cases : (P : ℕ → Type 0) → P 16 → P 24 → P 32 → (n l : ℕ) → 0 < share-length n l → P (share-length n l)
+unfolding share-length
+share-length-cases P x y z n l = go (eqb l (n * 16)) (eqb l (n * 24)) (eqb l (n * 32))
+  where
+    go : (a b c : Bool) → 0 < cond a 16 (cond b 24 (cond c 32 0)) → P (cond a 16 (cond b 24 (cond c 32 0)))
+    go true b c h = x
+    go false true c h = y
+    go false false true h = z
+    go false false false h = absurd (omega arith)
+
+pub share-length-is : (n l : ℕ) → 0 < share-length n l → l ≡ n * share-length n l
+unfolding share-length
+share-length-is n l = go (eqb l (n * 16)) refl (eqb l (n * 24)) refl (eqb l (n * 32)) refl
+  where
+    go : (a : Bool) → eqb l (n * 16) ≡ a → (b : Bool) → eqb l (n * 24) ≡ b → (c : Bool) → eqb l (n * 32) ≡ c
+        → 0 < cond a 16 (cond b 24 (cond c 32 0)) → l ≡ n * cond a 16 (cond b 24 (cond c 32 0))
+    go true p b q c r h = eqb-true l (n * 16) p
+    go false p true q c r h = eqb-true l (n * 24) q
+    go false p false q true r h = eqb-true l (n * 32) r
+    go false p false q false r h = absurd (omega arith)
+
+pub share-length-le : (n l : ℕ) → share-length n l ≤ 32
+share-length-le n l = go (share-length n l) refl
+  where
+    go : (s : ℕ) → share-length n l ≡ s → s ≤ 32
+    go zero e = omega arith
+    go (suc s) e = rw e at (share-length-cases (λ k. k ≤ 32) (omega arith) (omega arith) (omega arith) n l (omega arith))
+
+-- n shares of such a length have it
+pub share-length-laid : (n k l : ℕ) → 0 < n → 0 < share-length k l → share-length n (n * share-length k l) ≡ share-length k l
+share-length-laid n k l h = share-length-cases (λ s. share-length n (n * s) ≡ s) (first n) (second n h) (third n h) k l
+
+-- what is known of a call that is done
+pub guarded-inverse : (d : ℕ) (key input room : Bool) (tape need : ℕ) (o made : List ℕ) (k : ℕ) (q : List ℕ)
+    → guarded d key input room tape need o made ≡ done k q
+    → (unserved d ≡ false) × (key ≡ true) × (input ≡ true) × (room ≡ true) × (need ≤ tape) × (k ≡ need) × (q ≡ made)
+unfolding guarded
+guarded-inverse d key input room tape need o made k q e = go (unserved d) key input room (ltb tape need) refl e
+  where
+    go : (u y i r t : Bool) → ltb tape need ≡ t
+        → cond u (refused 1 o) (cond (not y) (refused 2 o) (cond (not i) (refused 3 o) (cond (not r) (refused 4 o) (cond t (refused 5 o) (done need made))))) ≡ done k q
+        → (u ≡ false) × (y ≡ true) × (i ≡ true) × (r ≡ true) × (need ≤ tape) × (k ≡ need) × (q ≡ made)
+    go true y i r t p e = absurd (not-done 1 o k q e)
+    go false false i r t p e = absurd (not-done 2 o k q e)
+    go false true false r t p e = absurd (not-done 3 o k q e)
+    go false true true false t p e = absurd (not-done 4 o k q e)
+    go false true true true true p e = absurd (not-done 5 o k q e)
+    go false true true true false p e = (refl, refl, refl, refl, ltb-false tape need p, cc, cc)
+
+-- a call that fits is carried through
+pub guarded-fits : (d : ℕ) (key input room : Bool) (tape need : ℕ) (o made : List ℕ)
+    → unserved d ≡ false → key ≡ true → input ≡ true → room ≡ true → need ≤ tape → guarded d key input room tape need o made ≡ done need made
+unfolding guarded
+guarded-fits d key input room tape need o made u y i r h = simp (u, y, i, r, le-ltb tape need h)

@@ -1,0 +1,134 @@
+-- The refresh: its length, its need, that it joins to the same byte, that bytes stay bytes and surplus tape has no effect. All but the last part
+-- holds of any list of pairs. Assumes nothing.
+use mathlib.Core.Path.{_≡_, refl, sym, ap, _∙_}
+use mathlib.Core.List.{List, [], _∷_, _++_}
+use Prim.Native.Nat.{ℕ, zero, suc, _+_, _^_, _≤_, _<_}
+use native.Mathlib.Numerals.{add-one}
+use native.Mathlib.Omega.{arith}
+use lib.Bits.{bitXor, xor-lt}
+use lib.ListN.{length, getD, set, drop, length-set}
+use Rattle.xor.specs.Lists.{at, tab, runs, All, done, _&_, Below}
+use Rattle.xor.specs.Sums.{joined}
+use Rattle.xor.proofs.ListsLaws.{length-tab, all-tab, at-below, tab-last}
+use Rattle.xor.proofs.SumsLaws.{joined-set}
+use Rattle.xor.proofs.XorLaws.{xor-sums}
+use Rattle.shares.specs.Refresh.{into, stirred, refresh-pairs, refreshed, refresh-need}
+
+-- ---- one XOR into a share
+
+pub length-into : (xs : List ℕ) (i t : ℕ) → length (into xs i t) ≡ length xs
+unfolding into
+length-into xs i t = length-set xs i (bitXor (at xs i) t)
+
+pub joined-into : (xs : List ℕ) (i t : ℕ) → i < length xs → joined (into xs i t) ≡ bitXor (joined xs) t
+unfolding into at
+joined-into xs i t h = joined-set xs i (bitXor (getD xs i 0) t) h ∙ goes (joined xs) (getD xs i 0) t
+  where
+    goes : (r x t : ℕ) → bitXor r (bitXor x (bitXor x t)) ≡ bitXor r t
+    goes r x t = simp xor-sums
+
+set-below : (m : ℕ) {xs : List ℕ} (i v : ℕ) → v < m → Below m xs → Below m (set xs i v)
+set-below m i v g done = done
+set-below m zero v g (h & hs) = g & hs
+set-below m (suc i) v g (h & hs) = h & set-below m i v g hs
+
+pub into-below : (w : ℕ) {xs : List ℕ} (i t : ℕ) → t < 2 ^ w → Below (2 ^ w) xs → Below (2 ^ w) (into xs i t)
+unfolding into
+into-below w {xs} i t g hs = set-below (2 ^ w) i (bitXor (at xs i) t) (xor-lt w (at xs i) t (at-below w hs i) g) hs
+
+-- ---- any list of pairs
+
+-- both shares are among the n
+abbrev pub Among : (n : ℕ) → ℕ × ℕ → Type 0
+Among n p = (p .0 < n) × (p .1 < n)
+
+pub length-stirred : (ps : List (ℕ × ℕ)) (xs ts : List ℕ) → length (stirred ps xs ts) ≡ length xs
+unfolding stirred
+length-stirred [] xs ts = refl
+length-stirred (p ∷ ps) xs ts =
+    length-stirred ps (into (into xs (p .0) (at ts 0)) (p .1) (at ts 0)) (drop 1 ts)
+    ∙ length-into (into xs (p .0) (at ts 0)) (p .1) (at ts 0) ∙ length-into xs (p .0) (at ts 0)
+
+pub stirred-joins : (n : ℕ) {ps : List (ℕ × ℕ)} → All (Among n) ps → (xs ts : List ℕ) → length xs ≡ n → joined (stirred ps xs ts) ≡ joined xs
+unfolding stirred
+stirred-joins n done xs ts e = refl
+stirred-joins n (_&_ {x = p} h hs) xs ts e =
+    let l₁ = length-into xs (p .0) (at ts 0) in
+    let l₂ = length-into (into xs (p .0) (at ts 0)) (p .1) (at ts 0) in
+    stirred-joins n hs (into (into xs (p .0) (at ts 0)) (p .1) (at ts 0)) (drop 1 ts) (l₂ ∙ l₁ ∙ e)
+    ∙ joined-into (into xs (p .0) (at ts 0)) (p .1) (at ts 0) (omega arith)
+    ∙ ap (λ (x : ℕ). bitXor x (at ts 0)) (joined-into xs (p .0) (at ts 0) (omega arith))
+    ∙ twice (joined xs) (at ts 0)
+  where
+    twice : (x t : ℕ) → bitXor (bitXor x t) t ≡ x
+    twice x t = simp xor-sums
+
+drop-below : (m : ℕ) {xs : List ℕ} (n : ℕ) → Below m xs → Below m (drop n xs)
+drop-below m zero hs = hs
+drop-below m (suc n) done = done
+drop-below m (suc n) (h & hs) = drop-below m n hs
+
+pub stirred-below : (w : ℕ) (ps : List (ℕ × ℕ)) {xs ts : List ℕ} → Below (2 ^ w) xs → Below (2 ^ w) ts → Below (2 ^ w) (stirred ps xs ts)
+unfolding stirred
+stirred-below w [] hs gs = hs
+stirred-below w (p ∷ ps) {xs} {ts} hs gs =
+    stirred-below w ps (into-below w (p .1) (at ts 0) (at-below w gs 0) (into-below w (p .0) (at ts 0) (at-below w gs 0) hs)) (drop-below (2 ^ w) 1 gs)
+
+next : (ts : List ℕ) (k : ℕ) → at (drop 1 ts) k ≡ at ts (suc k)
+unfolding at
+next [] k = refl
+next (t ∷ ts) k = refl
+
+-- one pair more draws the next byte
+pub stirred-last : (ps : List (ℕ × ℕ)) (p : ℕ × ℕ) (xs ts : List ℕ)
+    → stirred (ps ++ (p ∷ [])) xs ts ≡ into (into (stirred ps xs ts) (p .0) (at ts (length ps))) (p .1) (at ts (length ps))
+unfolding stirred
+stirred-last [] p xs ts = refl
+stirred-last (q ∷ ps) p xs ts =
+    stirred-last ps p (into (into xs (q .0) (at ts 0)) (q .1) (at ts 0)) (drop 1 ts)
+    ∙ ap (λ (t : ℕ). into (into (stirred ps (into (into xs (q .0) (at ts 0)) (q .1) (at ts 0)) (drop 1 ts)) (p .0) t) (p .1) t) (next ts (length ps))
+
+stirred-surplus : (ps : List (ℕ × ℕ)) (xs ts us : List ℕ) → length ps ≤ length ts → stirred ps xs (ts ++ us) ≡ stirred ps xs ts
+unfolding stirred at
+stirred-surplus [] xs ts us h = refl
+stirred-surplus (p ∷ ps) xs [] us h = absurd (omega arith)
+stirred-surplus (p ∷ ps) xs (t ∷ ts) us h = stirred-surplus ps (into (into xs (p .0) t) (p .1) t) ts us (omega arith)
+
+-- ---- this refresh
+
+pub refresh-need-is : (d : ℕ) → refresh-need d ≡ d
+unfolding refresh-need refresh-pairs
+refresh-need-is d = length-tab (λ k. (0, suc k)) d
+
+pub length-refreshed : (d : ℕ) (xs ts : List ℕ) → length (refreshed d xs ts) ≡ length xs
+unfolding refreshed
+length-refreshed d xs ts = length-stirred (refresh-pairs d) xs ts
+
+pub refresh-joins : (d : ℕ) (xs ts : List ℕ) → length xs ≡ suc d → joined (refreshed d xs ts) ≡ joined xs
+unfolding refreshed refresh-pairs
+refresh-joins d xs ts e = stirred-joins (suc d) (all-tab (λ k. (0, suc k)) d (λ k l. (omega arith, omega arith))) xs ts e
+
+pub refresh-below : (w d : ℕ) {xs ts : List ℕ} → Below (2 ^ w) xs → Below (2 ^ w) ts → Below (2 ^ w) (refreshed d xs ts)
+unfolding refreshed
+refresh-below w d hs gs = stirred-below w (refresh-pairs d) hs gs
+
+pub refresh-surplus : (d : ℕ) (xs ts us : List ℕ) → refresh-need d ≤ length ts → refreshed d xs (ts ++ us) ≡ refreshed d xs ts
+unfolding refreshed refresh-need
+refresh-surplus d xs ts us h = stirred-surplus (refresh-pairs d) xs ts us h
+
+pairs-last : (k : ℕ) → refresh-pairs (suc k) ≡ refresh-pairs k ++ ((0, suc k) ∷ [])
+unfolding refresh-pairs
+pairs-last k = tab-last (λ k. (0, suc k)) k
+
+-- one share more is refreshed: share i with the next drawn byte
+pub refresh-more : (k i : ℕ) (x xs ts : List ℕ) → x ≡ refreshed k xs ts → i ≡ suc k
+    → set (set x 0 (bitXor (getD x 0 0) (getD ts k 0))) i (bitXor (getD (set x 0 (bitXor (getD x 0 0) (getD ts k 0))) i 0) (getD ts k 0)) ≡ refreshed (k + 1) xs ts
+unfolding refreshed refresh-need into at
+refresh-more k i x xs ts e h =
+    let l : length (refresh-pairs k) ≡ k = refresh-need-is k in
+    rw (h, e, add-one, pairs-last k) (sym (stirred-last (refresh-pairs k) (0, suc k) xs ts
+    ∙ ap (λ (m : ℕ). into (into (stirred (refresh-pairs k) xs ts) 0 (getD ts m 0)) (suc k) (getD ts m 0)) l))
+
+pub refresh-none : (xs ts : List ℕ) → xs ≡ refreshed 0 xs ts
+unfolding refreshed refresh-pairs tab runs stirred
+refresh-none xs ts = refl

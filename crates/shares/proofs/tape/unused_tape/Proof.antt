@@ -1,0 +1,47 @@
+-- `shares::tape::unused_tape` meets its contract. Assumes nothing.
+use native.Mathlib.Omega.{arith}
+use borrow.Author.Needs.{needs}
+use denote.Ref.{now}
+use Rattle.shares.specs.Calls.{unused}
+use Rattle.shares.proofs.WriteLaws.{part-rest, part-past}
+use Rattle.shares.proofs.tape.unused_tape.Statement.{statement}
+use Rattle.shares.proofs.tape.unused_tape.Tie as tie
+
+sub-result : tie.Need-sub-result
+sub-result c = search needs
+
+part-result-start : tie.Need-part-result-start
+part-result-start c = search needs
+
+part-result-end : tie.Need-part-result-end
+part-result-end c = search needs
+
+sub-result-2 : tie.Need-sub-result-2
+sub-result-2 c = search needs
+
+part-result-start-2 : tie.Need-part-result-start-2
+part-result-start-2 c = search needs
+
+part-result-end-2 : tie.Need-part-result-end-2
+part-result-end-2 c = search needs
+
+returns : tie.Need-returns
+unfolding unused
+returns c = part-rest (now (c .before .before .args .tape)) (c .before .before .args .count)
+
+returns-2 : tie.Need-returns-2
+unfolding unused
+returns-2 c = part-past (now (c .before .before .args .tape)) (c .before .before .args .count) (omega arith)
+
+pub unused-tape-spec : {M : Type 1} → statement M
+unused-tape-spec =
+    tie.close
+    (tie.spec
+    sub-result
+    part-result-start
+    part-result-end
+    sub-result-2
+    part-result-start-2
+    part-result-end-2
+    returns
+    returns-2)

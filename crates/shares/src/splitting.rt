@@ -1,0 +1,52 @@
+// Splitting: a string becomes n shares that join to it.
+ghost use mathlib.Core.Path.{_≡_};
+ghost use Prim.Native.Nat.{_+_, _*_, _≤_};
+ghost use lib.ListN.{length};
+ghost use Rattle.xor.specs.Sums.{xors};
+ghost use Rattle.shares.specs.Writes.{front};
+ghost use Rattle.shares.specs.Outcome.{outcome};
+ghost use Rattle.shares.specs.Strings.{joined-string, parts, laid, split};
+ghost use Rattle.shares.specs.Calls.{Split-outcome};
+use crate::Answer;
+use crate::Refusal;
+
+// Share 0 over the front of out: the input with the first d parts of the tape XORed in. Answers with how many bytes were drawn.
+fn first_share(d: usize, input: &[u8], tape: &[u8], out: &mut [u8]) -> usize
+    requires { ⌜ (d * length (now input) ≤ length (now tape)) × (length (now input) ≤ length (now out)) ⌝ }
+    ensures { λ r. ⌜ (r ≡ d * length (now (input .entry))) × (now (out .exit) ≡ front (xors (now (input .entry)) (joined-string (parts d (length (now (input .entry))) (now (tape .entry))))) (now (out .entry))) ⌝ }
+{
+    let l = input.len();
+    crate::bytes::put(input, out);
+    crate::joining::xor_parts(d, tape, &mut out[0..l])
+}
+
+// Share 0, and behind it the drawn bytes as shares 1 to d. Answers with how many bytes were drawn.
+fn split_core(d: usize, input: &[u8], tape: &[u8], output: &mut [u8]) -> usize
+    requires { ⌜ (d * length (now input) ≤ length (now tape)) × (length (now output) ≡ (d + 1) * length (now input)) ⌝ }
+    ensures { λ r. ⌜ (r ≡ d * length (now (input .entry))) × (now (output .exit) ≡ laid (split d (now (input .entry)) (now (tape .entry)))) ⌝ }
+{
+    let l = input.len();
+    let drawn = first_share(d, input, tape, output);
+    crate::bytes::put(&tape[0..drawn], &mut output[l..]);
+    drawn
+}
+
+pub fn split(order: usize, input: &[u8], tape: &[u8], output: &mut [u8]) -> Answer
+    ensures { λ r. ⌜ outcome r (now (output .exit)) ≡ Split-outcome order (now (input .entry)) (now (tape .entry)) (now (output .entry)) ⌝ }
+{
+    if crate::answers::unserved(order) {
+        return Answer::Refused(Refusal::Order);
+    }
+    let l = crate::answers::share_length(1, input.len());
+    let answer = crate::answers::checked(
+        true,
+        0 < l,
+        output.len() == (order + 1) * l,
+        tape.len(),
+        order * l,
+    );
+    let Answer::Taken(_) = answer else {
+        return answer;
+    };
+    Answer::Taken(split_core(order, input, tape, output))
+}
