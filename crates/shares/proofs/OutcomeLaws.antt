@@ -18,7 +18,7 @@ clash e = let z : _≡_ {A = ℕ} 0 1 = cc in omega arith
 never : (r : Refusal) (k : ℕ) → Refused r ≡ Taken k → ⊥
 never r k e = let z : _≡_ {A = ℕ} 0 1 = cc in omega arith
 
-not-done : (n : ℕ) (o : List ℕ) (k : ℕ) (q : List ℕ) → refused n o ≡ done k q → ⊥
+pub not-done : (n : ℕ) (o : List ℕ) (k : ℕ) (q : List ℕ) → refused n o ≡ done k q → ⊥
 not-done n o k q e = let z : _≡_ {A = ℕ} 0 1 = cc in omega arith
 
 -- ---- the order
