@@ -70,7 +70,7 @@ affine-by-xor ms c a b = ap (λ (n : ℕ). bitXor n c) (linear-by-xor ms a b) �
     thrice x y c = simp xor-sums
 
 -- one more share: the constant counts if the shares are an odd number
-once-more : (n c : ℕ) → bitXor c (if-set (n % 2) c) ≡ if-set (suc n % 2) c
+pub once-more : (n c : ℕ) → bitXor c (if-set (n % 2) c) ≡ if-set (suc n % 2) c
 once-more n c =
     ap (λ (k : ℕ). bitXor k (if-set (n % 2) c)) (sym (if-set-one c)) ∙ sym (if-set-sum 1 (n % 2) c (lit< tt) (mod-lt n two-pos))
     ∙ ap (λ (k : ℕ). if-set k c) (next (n % 2) (mod-lt n two-pos) ∙ step n)

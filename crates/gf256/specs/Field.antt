@@ -77,6 +77,10 @@ constant = 0x63
 unfoldable pub affine : ℕ → ℕ
 affine a = affine-by rows constant a
 
+-- the S-box of a plain byte (SBOX of FIPS 197)
+unfoldable pub s-box : ℕ → ℕ
+s-box x = affine (inverse x)
+
 -- ---- Af once more, as FIPS 197 prints it: bit i is the sum of the bits i, i + 4 to i + 7 and bit i of 63, modulo 2
 
 unfoldable pub bit : (a i : ℕ) → ℕ

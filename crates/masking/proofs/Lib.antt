@@ -1,0 +1,6 @@
+pub mod TermsLaws
+pub mod CallsLaws
+pub mod SheetParts
+pub mod ReadingLaws
+pub mod Hiding
+pub mod Places
