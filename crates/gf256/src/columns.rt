@@ -3,7 +3,7 @@ ghost use mathlib.Core.Path.{_≡_};
 ghost use Rattle.gf256.specs.Field;
 
 // A byte of the mixed column: 02 · a + 03 · b + c + d.
-fn mix(a: u8, b: u8, c: u8, d: u8) -> u8
+pub fn mix(a: u8, b: u8, c: u8, d: u8) -> u8
     ensures { λ r. ⌜ r ≡ Field.mixed a b c d ⌝ }
 {
     crate::product::double(a) ^ (crate::product::double(b) ^ b) ^ c ^ d

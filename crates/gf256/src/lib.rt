@@ -6,6 +6,7 @@ mod powers;
 mod product;
 
 pub use affine_map::affine;
+pub use columns::mix;
 pub use columns::mix_column;
 pub use powers::fourth;
 pub use powers::sixteenth;

@@ -1,0 +1,180 @@
+-- Document 03's S-box and cipher over shares, copied over this repository's field and `bitXor`, to be compared with `Box` and `Cipher`.
+-- `Document03Laws` proves that they agree. Its product is that of isw's `Document03`. Assumes nothing: these are definitions.
+-- A shared string is a list of shared bytes there, and a list of shares here.
+use mathlib.Core.Bool.{Bool, cond, _&&_, _||_}
+use mathlib.Core.List.{List, [], _∷_, _++_}
+use Prim.Native.Nat.{ℕ, zero, suc, _+_, _*_, _-_, _/_, _%_}
+use lib.Bits.{bitXor}
+use lib.Dec.{eqb}
+use lib.ListN.{length, getD, take, drop}
+use Rattle.xor.specs.Lists.{at}
+use Rattle.gf256.specs.Field.{doubled, times, squared, fourth, sixteenth, affine}
+use Rattle.isw.specs.Document03.{product, product-tape}
+
+-- ---- shared bytes
+
+unfoldable pub xors : List ℕ → List ℕ → List ℕ
+xors [] ys = []
+xors (x ∷ xs) [] = []
+xors (x ∷ xs) (y ∷ ys) = bitXor x y ∷ xors xs ys
+
+unfoldable pub each : (ℕ → ℕ) → List ℕ → List ℕ
+each f [] = []
+each f (x ∷ xs) = f x ∷ each f xs
+
+unfoldable pub into-first : ℕ → List ℕ → List ℕ
+into-first t [] = []
+into-first t (x ∷ xs) = bitXor x t ∷ xs
+
+-- refresh
+unfoldable pub refresh-from : (first : ℕ) → (rest tape : List ℕ) → (done : List ℕ) → List ℕ
+refresh-from x [] ts ys = x ∷ ys
+refresh-from x (z ∷ zs) ts ys = refresh-from (bitXor x (at ts 0)) zs (drop 1 ts) (ys ++ (bitXor z (at ts 0) ∷ []))
+
+unfoldable pub refreshed : (shares tape : List ℕ) → List ℕ
+refreshed [] ts = []
+refreshed (x ∷ xs) ts = refresh-from x xs ts []
+
+-- power 254 and the S-box
+unfoldable pub power-254 : (shares tape : List ℕ) → List ℕ
+power-254 x ts =
+    let d = length x - 1 in
+    let p = product-tape d in
+    let z = refreshed (each squared x) ts in
+    let y = product times z x (drop d ts) in
+    let w = refreshed (each fourth y) (drop (d + p) ts) in
+    let y2 = product times y w (drop (2 * d + p) ts) in
+    let y3 = product times (each sixteenth y2) w (drop (2 * d + 2 * p) ts) in
+    product times y3 z (drop (2 * d + 3 * p) ts)
+
+unfoldable pub box-tape : (d : ℕ) → ℕ
+box-tape d = 2 * d * d + 4 * d
+
+unfoldable pub box : (shares tape : List ℕ) → List ℕ
+box x ts =
+    let y = each affine (power-254 x ts) in cond (eqb (length x % 2) 0) (into-first 99 y) y
+
+-- ---- shared strings
+
+abbrev pub Shared : Type 0
+Shared = List (List ℕ)
+
+unfoldable pub sh : Shared → (i : ℕ) → List ℕ
+sh xs i = getD xs i []
+
+unfoldable pub add : Shared → Shared → Shared
+add [] ys = []
+add (x ∷ xs) [] = []
+add (x ∷ xs) (y ∷ ys) = xors x y ∷ add xs ys
+
+unfoldable pub boxes : (d : ℕ) → Shared → (tape : List ℕ) → Shared
+boxes d [] ts = []
+boxes d (x ∷ xs) ts = box x ts ∷ boxes d xs (drop (box-tape d) ts)
+
+-- key expansion
+unfoldable pub rcon : (i : ℕ) → ℕ
+rcon zero = 1
+rcon (suc i) = doubled (rcon i)
+
+unfoldable pub rotated : Shared → Shared
+rotated ws = sh ws 1 ∷ sh ws 2 ∷ sh ws 3 ∷ sh ws 0 ∷ []
+
+unfoldable pub with-rcon : (c : ℕ) → Shared → Shared
+with-rcon c [] = []
+with-rcon c (x ∷ xs) = into-first c x ∷ xs
+
+unfoldable pub word : Shared → (i : ℕ) → Shared
+word ks i = take 4 (drop (4 * i) ks)
+
+unfoldable pub expanded-from : (left i : ℕ) → (nk d : ℕ) → Shared → (tape : List ℕ) → Shared
+expanded-from zero i nk d ks ts = ks
+expanded-from (suc l) i nk d ks ts =
+    let w = word ks (i - 1) in
+    let old = word ks (i - nk) in
+    let subbed = boxes d w ts in
+    let rest = drop (4 * box-tape d) ts in
+    let first = expanded-from l (suc i) nk d (ks ++ add old (with-rcon (rcon (i / nk - 1)) (rotated subbed))) rest in
+    let extra = expanded-from l (suc i) nk d (ks ++ add old subbed) rest in
+    let plain = expanded-from l (suc i) nk d (ks ++ add old w) ts in
+    cond (eqb (i % nk) 0) first (cond (eqb nk 8 && eqb (i % 8) 4) extra plain)
+
+unfoldable pub rounds : (nk : ℕ) → ℕ
+rounds nk = nk + 6
+
+unfoldable pub expanded : (nk d : ℕ) → (key : Shared) → (tape : List ℕ) → Shared
+expanded nk d ks ts = expanded-from (4 * suc (rounds nk) - nk) nk nk d ks ts
+
+unfoldable pub key-boxes : (nk : ℕ) → ℕ
+key-boxes nk = cond (eqb nk 4) 40 (cond (eqb nk 6) 32 52)
+
+-- rounds
+unfoldable pub by-rows : (left k : ℕ) → Shared → Shared
+by-rows zero k s = []
+by-rows (suc l) k s = sh s (k / 4 + 4 * (k % 4)) ∷ by-rows l (suc k) s
+
+unfoldable pub substituted : (d : ℕ) → Shared → (tape : List ℕ) → Shared
+substituted d s ts = by-rows 16 0 (boxes d (by-rows 16 0 s) ts)
+
+unfoldable pub shifted-from : (left k : ℕ) → Shared → Shared
+shifted-from zero k s = []
+shifted-from (suc l) k s = sh s (k % 4 + 4 * ((k / 4 + k % 4) % 4)) ∷ shifted-from l (suc k) s
+
+unfoldable pub shifted : Shared → Shared
+shifted s = shifted-from 16 0 s
+
+unfoldable pub mixed-byte : (a b c e : List ℕ) → List ℕ
+mixed-byte a b c e = xors (each doubled a) (xors (xors (each doubled b) b) (xors c e))
+
+unfoldable pub mixed-column : Shared → Shared
+mixed-column s =
+    mixed-byte (sh s 0) (sh s 1) (sh s 2) (sh s 3) ∷ mixed-byte (sh s 1) (sh s 2) (sh s 3) (sh s 0)
+    ∷ mixed-byte (sh s 2) (sh s 3) (sh s 0) (sh s 1) ∷ mixed-byte (sh s 3) (sh s 0) (sh s 1) (sh s 2) ∷ []
+
+unfoldable pub mixed : (left : ℕ) → Shared → Shared
+mixed zero s = []
+mixed (suc k) s = mixed-column (take 4 s) ++ mixed k (drop 4 s)
+
+unfoldable pub round-key : Shared → (r : ℕ) → Shared
+round-key ks r = take 16 (drop (16 * r) ks)
+
+unfoldable pub rounds-from : (left r : ℕ) → (d : ℕ) → (keys : Shared) → (state : Shared) → (tape : List ℕ) → Shared
+rounds-from zero r d ks s ts = s
+rounds-from (suc l) r d ks s ts =
+    let sub = shifted (substituted d s ts) in
+    let rest = drop (16 * box-tape d) ts in
+    rounds-from l (suc r) d ks (add (cond (eqb l 0) sub (mixed 4 sub)) (round-key ks r)) rest
+
+unfoldable pub encrypted : (nk d : ℕ) → (key input : Shared) → (tape : List ℕ) → Shared
+encrypted nk d k x ts =
+    let ks = expanded nk d k ts in
+    rounds-from (rounds nk) 1 d ks (add x (round-key ks 0)) (drop (key-boxes nk * box-tape d) ts)
+
+unfoldable pub cipher-tape : (nk d : ℕ) → ℕ
+cipher-tape nk d = (key-boxes nk + 16 * rounds nk) * box-tape d
+
+unfoldable pub key-words : ℕ → Bool
+key-words nk = eqb nk 4 || (eqb nk 6 || eqb nk 8)
+
+-- ---- the layout
+
+unfoldable pub column : (left : ℕ) → (l i : ℕ) → List ℕ → List ℕ
+column zero l i bs = []
+column (suc k) l i bs = getD bs i 0 ∷ column k l (i + l) bs
+
+unfoldable pub shared-from : (left i : ℕ) → (n l : ℕ) → List ℕ → Shared
+shared-from zero i n l bs = []
+shared-from (suc k) i n l bs = column n l i bs ∷ shared-from k (suc i) n l bs
+
+unfoldable pub shared : (n : ℕ) → List ℕ → Shared
+shared n bs = shared-from (length bs / n) 0 n (length bs / n) bs
+
+unfoldable pub nth-shares : (i : ℕ) → Shared → List ℕ
+nth-shares i [] = []
+nth-shares i (x ∷ xs) = at x i ∷ nth-shares i xs
+
+unfoldable pub laid-from : (left i : ℕ) → Shared → List ℕ
+laid-from zero i s = []
+laid-from (suc k) i s = nth-shares i s ++ laid-from k (suc i) s
+
+unfoldable pub laid : (n : ℕ) → Shared → List ℕ
+laid n s = laid-from n 0 s

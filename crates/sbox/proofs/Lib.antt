@@ -1,0 +1,4 @@
+pub mod BoxLaws
+pub mod CallsLaws
+pub mod EachLaws
+pub mod StageLaws

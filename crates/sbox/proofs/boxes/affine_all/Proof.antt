@@ -1,0 +1,59 @@
+-- `sbox::boxes::affine_all` meets its contract. Assumes nothing.
+use mathlib.Core.Path.{_≡_, refl}
+use Prim.Native.Nat.{_≤_, _-_}
+use native.Mathlib.Omega.{arith}
+use borrow.Author.Needs.{needs}
+use lib.ListN.{length, length-set}
+use Rattle.gf256.specs.Field as Field
+use Rattle.sbox.proofs.EachLaws.{each, each-none, each-more, each-all}
+use Rattle.sbox.proofs.boxes.affine_all.Statement.{statement}
+use Rattle.sbox.proofs.boxes.affine_all.Tie as tie
+
+abbrev Inv-loop : tie.InvT-loop
+Inv-loop x₀ k₀ k-end x k = (k ≤ k-end) × (k-end ≡ length x₀) × (x ≡ each Field.affine k x₀) × (length x ≡ length x₀)
+
+abbrev μ-loop : tie.MeasureT-loop
+μ-loop x₀ k₀ k-end x k = k-end - k
+
+loop-holds : tie.Need-loop-holds Inv-loop μ-loop
+loop-holds c = (search needs, refl, each-none _ _, refl)
+
+slice-read-affine : tie.Need-slice-read-affine Inv-loop μ-loop
+slice-read-affine c = search needs
+
+affine-requires : tie.Need-affine-requires Inv-loop μ-loop
+affine-requires c κs = search needs
+
+slice-write-x : tie.Need-slice-write-x Inv-loop μ-loop
+slice-write-x c = search needs
+
+add-k : tie.Need-add-k Inv-loop μ-loop
+add-k c = search needs
+
+loop-less : tie.Need-loop-less Inv-loop μ-loop
+loop-less c = search needs
+
+loop-again : tie.Need-loop-again Inv-loop μ-loop
+loop-again c = (omega arith, search needs, each-more _ _ _ _ _ (c .before .before .before .loop .inv .2) (c .affine .ensures) (omega arith), simp length-set (omega arith))
+
+same-length : tie.Need-same-length Inv-loop μ-loop
+same-length c = search needs
+
+returns : tie.Need-returns Inv-loop μ-loop
+returns c = each-all _ _ _ _ (c .before .loop .inv .2) (omega arith)
+
+pub affine-all-spec : {M : Type 1} → statement M
+affine-all-spec =
+    tie.close
+    (tie.spec
+    Inv-loop
+    μ-loop
+    loop-holds
+    slice-read-affine
+    affine-requires
+    slice-write-x
+    add-k
+    loop-less
+    loop-again
+    same-length
+    returns)

@@ -1,0 +1,59 @@
+-- `sbox::powers::last_stage` meets its contract. Assumes nothing.
+use mathlib.Core.Path.{ap₂}
+use Prim.Native.Nat.{_+_}
+use borrow.Author.Needs.{needs}
+use Rattle.sbox.proofs.StageLaws.{last-after}
+use Rattle.sbox.proofs.powers.last_stage.Statement.{statement}
+use Rattle.sbox.proofs.powers.last_stage.Tie as tie
+
+sixteenth-all-requires : tie.Need-sixteenth-all-requires
+sixteenth-all-requires c κs = search needs
+
+product-core-requires : tie.Need-product-core-requires
+product-core-requires c κs = search needs
+
+sub-product-core : tie.Need-sub-product-core
+sub-product-core c = search needs
+
+part-product-core-start : tie.Need-part-product-core-start
+part-product-core-start c = search needs
+
+part-product-core-end : tie.Need-part-product-core-end
+part-product-core-end c = search needs
+
+product-core-requires-2 : tie.Need-product-core-requires-2
+product-core-requires-2 c κs = search needs
+
+add-result : tie.Need-add-result
+add-result c = search needs
+
+same-length : tie.Need-same-length
+same-length c = search needs
+
+same-length-2 : tie.Need-same-length-2
+same-length-2 c = search needs
+
+same-length-3 : tie.Need-same-length-3
+same-length-3 c = search needs
+
+returns : tie.Need-returns
+returns c =
+    let p = c .before .before .before .before .before .before .before .before .product-core .ensures in
+    let q = c .before .before .product-core2 .ensures in
+    (ap₂ _+_ (p .0) (q .0), last-after _ _ _ _ _ _ _ _ _ (c .before .before .before .before .before .before .before .before .before .before .before .before .before .sixteenth-all .ensures) (p .1) (p .0) (q .1))
+
+pub last-stage-spec : {M : Type 1} → statement M
+last-stage-spec =
+    tie.close
+    (tie.spec
+    sixteenth-all-requires
+    product-core-requires
+    sub-product-core
+    part-product-core-start
+    part-product-core-end
+    product-core-requires-2
+    add-result
+    same-length
+    same-length-2
+    same-length-3
+    returns)

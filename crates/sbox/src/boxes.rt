@@ -1,0 +1,69 @@
+// The masked S-box: power 254, the affine map on each share, and 63 into share 0 if the order is odd.
+ghost use mathlib.Core.Path.{_≡_};
+ghost use mathlib.Core.List.{map};
+ghost use Prim.Native.Nat.{_+_, _%_, _≤_, _<_};
+ghost use lib.ListN.{length};
+ghost use Rattle.gf256.specs.Field as Field;
+ghost use Rattle.shares.specs.Outcome.{outcome};
+ghost use Rattle.sbox.specs.Box;
+ghost use Rattle.sbox.specs.Calls.{Box-outcome};
+use shares::Answer;
+use shares::Refusal;
+
+// The affine map of each share.
+fn affine_all(x: &mut [u8])
+    ensures { λ _. ⌜ now (x .exit) ≡ map Field.affine (now (x .entry)) ⌝ }
+{
+    for k in 0..x.len() {
+        x[k] = gf256::affine(x[k]);
+    }
+}
+
+// n affine maps XORed 63 in n times: once more if that was an even number of times.
+fn correct(d: usize, x: &mut [u8])
+    requires { ⌜ 0 < length (now x) ⌝ }
+    ensures { λ _. ⌜ now (x .exit) ≡ Box.corrected (d % 2) (now (x .entry)) ⌝ }
+{
+    if d % 2 == 1 {
+        x[0] = x[0] ^ 0x63;
+    }
+}
+
+// How many bytes an S-box of order d draws.
+pub fn box_need(d: usize) -> usize
+    requires { ⌜ d ≤ 8 ⌝ }
+    ensures { λ r. ⌜ r ≡ Box.box-need d ⌝ }
+{
+    2 * d * d + 4 * d
+}
+
+// The S-box of the shares of a byte. Answers with how many bytes were drawn.
+pub fn box_core(d: usize, x: &[u8], tape: &[u8], output: &mut [u8]) -> usize
+    requires { ⌜ (d ≤ 8) × (length (now x) ≡ d + 1) × (length (now output) ≡ d + 1) × (Box.box-need d ≤ length (now tape)) ⌝ }
+    ensures { λ r. ⌜ (r ≡ Box.box-need d) × (now (output .exit) ≡ Box.box d (now (x .entry)) (now (tape .entry))) ⌝ }
+{
+    let drawn = crate::powers::power_core(d, x, tape, output);
+    affine_all(output);
+    correct(d, output);
+    drawn
+}
+
+pub fn masked_box(order: usize, input: &[u8], tape: &[u8], output: &mut [u8]) -> Answer
+    ensures { λ r. ⌜ outcome r (now (output .exit)) ≡ Box-outcome order (now (input .entry)) (now (tape .entry)) (now (output .entry)) ⌝ }
+{
+    if shares::answers::unserved(order) {
+        return Answer::Refused(Refusal::Order);
+    }
+    let n = order + 1;
+    let answer = shares::answers::checked(
+        true,
+        input.len() == n,
+        output.len() == n,
+        tape.len(),
+        box_need(order),
+    );
+    let Answer::Taken(_) = answer else {
+        return answer;
+    };
+    Answer::Taken(box_core(order, input, tape, output))
+}

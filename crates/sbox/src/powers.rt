@@ -1,0 +1,132 @@
+// Power 254 over shares, by document 01's chain: z = x²; refresh z; y = z·x; w = y⁴; refresh w; v = y·w; v¹⁶; v¹⁶·w; times z.
+// Each step gets the part of the tape from its first draw on, and the count rises by what it drew.
+ghost use mathlib.Core.Path.{_≡_};
+ghost use mathlib.Core.List.{map};
+ghost use Prim.Native.Nat.{_+_, _≤_};
+ghost use lib.ListN.{length};
+ghost use Rattle.gf256.specs.Field as Field;
+ghost use Rattle.isw.specs.Place as Place;
+ghost use Rattle.shares.specs.Refresh as Refresh;
+ghost use Rattle.sbox.specs.Box;
+
+// Each share squared.
+fn square_all(x: &mut [u8])
+    ensures { λ _. ⌜ now (x .exit) ≡ map Field.squared (now (x .entry)) ⌝ }
+{
+    for k in 0..x.len() {
+        x[k] = gf256::squared(x[k]);
+    }
+}
+
+// Each share to the fourth.
+fn fourth_all(x: &mut [u8])
+    ensures { λ _. ⌜ now (x .exit) ≡ map Field.fourth (now (x .entry)) ⌝ }
+{
+    square_all(x);
+    square_all(x);
+}
+
+// Each share to the sixteenth.
+fn sixteenth_all(x: &mut [u8])
+    ensures { λ _. ⌜ now (x .exit) ≡ map Field.sixteenth (now (x .entry)) ⌝ }
+{
+    fourth_all(x);
+    fourth_all(x);
+}
+
+// z = x², refreshed. Answers with how many bytes were drawn.
+fn make_z(d: usize, x: &[u8], tape: &[u8], z: &mut [u8]) -> usize
+    requires { ⌜ (length (now x) ≡ d + 1) × (length (now z) ≡ d + 1) × (Refresh.refresh-need d ≤ length (now tape)) ⌝ }
+    ensures { λ r. ⌜ (r ≡ Refresh.refresh-need d) × (now (z .exit) ≡ Box.stage-z d (now (x .entry)) (now (tape .entry))) ⌝ }
+{
+    shares::bytes::put(x, z);
+    square_all(z);
+    shares::refreshing::refresh_core(d, tape, z)
+}
+
+// w = y⁴, refreshed. Answers with how many bytes were drawn.
+fn make_w(d: usize, y: &[u8], tape: &[u8], w: &mut [u8]) -> usize
+    requires { ⌜ (length (now y) ≡ d + 1) × (length (now w) ≡ d + 1) × (Refresh.refresh-need d ≤ length (now tape)) ⌝ }
+    ensures { λ r. ⌜ (r ≡ Refresh.refresh-need d) × (now (w .exit) ≡ Box.stage-w d (now (y .entry)) (now (tape .entry))) ⌝ }
+{
+    shares::bytes::put(y, w);
+    fourth_all(w);
+    shares::refreshing::refresh_core(d, tape, w)
+}
+
+// The first stage: z, and y = z·x. Answers with how many bytes were drawn.
+fn first_stage(d: usize, x: &[u8], tape: &[u8], z: &mut [u8], y: &mut [u8]) -> usize
+    requires { ⌜ (d ≤ 8) × (length (now x) ≡ d + 1) × (length (now z) ≡ d + 1) × (length (now y) ≡ d + 1) × (Box.stage-need d ≤ length (now tape)) ⌝ }
+    ensures { λ r. ⌜ (r ≡ Box.stage-need d) × (now (z .exit) ≡ Box.stage-z d (now (x .entry)) (now (tape .entry))) × (now (y .exit) ≡ Box.stage-y d (now (x .entry)) (now (tape .entry))) ⌝ }
+{
+    let drawn = make_z(d, x, tape, z);
+    drawn + masking::product::product_core(d, z, x, &tape[drawn..], y)
+}
+
+// The second stage: w, and v = y·w. Answers with how many bytes were drawn.
+fn second_stage(d: usize, y: &[u8], tape: &[u8], w: &mut [u8], v: &mut [u8]) -> usize
+    requires { ⌜ (d ≤ 8) × (length (now y) ≡ d + 1) × (length (now w) ≡ d + 1) × (length (now v) ≡ d + 1) × (Box.stage-need d ≤ length (now tape)) ⌝ }
+    ensures { λ r. ⌜ (r ≡ Box.stage-need d) × (now (w .exit) ≡ Box.stage-w d (now (y .entry)) (now (tape .entry))) × (now (v .exit) ≡ Box.stage-v d (now (y .entry)) (now (tape .entry))) ⌝ }
+{
+    let drawn = make_w(d, y, tape, w);
+    drawn + masking::product::product_core(d, y, w, &tape[drawn..], v)
+}
+
+// The last stage: v¹⁶·w by way of y, and that times z. v is used up. Answers with how many bytes were drawn.
+fn last_stage(
+    d: usize,
+    v: &mut [u8],
+    w: &[u8],
+    z: &[u8],
+    tape: &[u8],
+    y: &mut [u8],
+    output: &mut [u8],
+) -> usize
+    requires { ⌜ (d ≤ 8) × (length (now v) ≡ d + 1) × (length (now w) ≡ d + 1) × (length (now z) ≡ d + 1) × (length (now y) ≡ d + 1) × (length (now output) ≡ d + 1) × (Place.product-need d + Place.product-need d ≤ length (now tape)) ⌝ }
+    ensures { λ r. ⌜ (r ≡ Place.product-need d + Place.product-need d) × (now (output .exit) ≡ Box.stage-last d (now (v .entry)) (now (w .entry)) (now (z .entry)) (now (tape .entry))) ⌝ }
+{
+    sixteenth_all(v);
+    let drawn = masking::product::product_core(d, v, w, tape, y);
+    drawn + masking::product::product_core(d, y, z, &tape[drawn..], output)
+}
+
+// The three stages, with room for z, w, y and v.
+fn power_with(
+    d: usize,
+    x: &[u8],
+    tape: &[u8],
+    z: &mut [u8],
+    w: &mut [u8],
+    y: &mut [u8],
+    v: &mut [u8],
+    output: &mut [u8],
+) -> usize
+    requires { ⌜ (d ≤ 8) × (length (now x) ≡ d + 1) × (length (now z) ≡ d + 1) × (length (now w) ≡ d + 1) × (length (now y) ≡ d + 1) × (length (now v) ≡ d + 1) × (length (now output) ≡ d + 1) × (Box.box-need d ≤ length (now tape)) ⌝ }
+    ensures { λ r. ⌜ (r ≡ Box.box-need d) × (now (output .exit) ≡ Box.power-254 d (now (x .entry)) (now (tape .entry))) ⌝ }
+{
+    let first = first_stage(d, x, tape, z, y);
+    let second = first + second_stage(d, y, &tape[first..], w, v);
+    second + last_stage(d, v, w, z, &tape[second..], y, output)
+}
+
+// Power 254 of the shares of a byte. Answers with how many bytes were drawn.
+pub fn power_core(d: usize, x: &[u8], tape: &[u8], output: &mut [u8]) -> usize
+    requires { ⌜ (d ≤ 8) × (length (now x) ≡ d + 1) × (length (now output) ≡ d + 1) × (Box.box-need d ≤ length (now tape)) ⌝ }
+    ensures { λ r. ⌜ (r ≡ Box.box-need d) × (now (output .exit) ≡ Box.power-254 d (now (x .entry)) (now (tape .entry))) ⌝ }
+{
+    let mut z = [0u8; 9];
+    let mut w = [0u8; 9];
+    let mut y = [0u8; 9];
+    let mut v = [0u8; 9];
+    let n = d + 1;
+    power_with(
+        d,
+        x,
+        tape,
+        &mut z[0..n],
+        &mut w[0..n],
+        &mut y[0..n],
+        &mut v[0..n],
+        output,
+    )
+}
