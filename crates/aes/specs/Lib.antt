@@ -1,4 +1,5 @@
 pub mod Fips197
 pub mod States
 pub mod Cipher
+pub mod Calls
 pub mod Document03
