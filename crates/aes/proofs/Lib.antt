@@ -2,9 +2,15 @@ pub mod StringLaws
 pub mod StatesLaws
 pub mod FipsLaws
 pub mod CipherLaws
+pub mod PartLaws
+pub mod SubLaws
+pub mod RoundLaws
+pub mod WordLaws
+pub mod ScheduleLaws
 pub mod Accuracy
 pub mod CallAccuracy
 pub mod NeedLaws
+pub mod CallsLaws
 pub mod SurplusLaws
 pub mod SmallValues
 pub mod Example

@@ -1,0 +1,77 @@
+-- `aes::rounds::rounds_with` meets its contract. Assumes nothing.
+use mathlib.Core.Path.{ap, sym, _∙_}
+use Prim.Native.Nat.{ℕ, suc, _*_, _-_}
+use native.Mathlib.Omega.{arith}
+use borrow.Author.Needs.{needs}
+use denote.Ref.{now}
+use Rattle.aes.specs.Fips197.{rounds}
+use Rattle.aes.specs.Cipher.{encrypted-with-need}
+use Rattle.aes.proofs.RoundLaws.{keys-long, encrypted-with-made}
+use Rattle.aes.proofs.rounds.rounds_with.Statement.{statement}
+use Rattle.aes.proofs.rounds.rounds_with.Tie as tie
+
+add-nr : tie.Need-add-nr
+add-nr c = search needs
+
+add-m : tie.Need-add-m
+add-m c = search needs
+
+mul-m : tie.Need-mul-m
+mul-m c = search needs
+
+add-key-requires : tie.Need-add-key-requires
+add-key-requires c κs =
+    let a = c .before .before .before .before .before .before .before .args in
+    (c .before .before .before .before .before .before .before .pre .0, omega arith, c .before .before .before .before .before .before .before .pre .2 ∙ ap (λ (n : ℕ). suc (a .d) * n) (sym (keys-long (a .nk))), c .before .before .before .before .before .before .before .pre .3)
+
+run-rounds-requires : tie.Need-run-rounds-requires
+unfolding encrypted-with-need rounds
+run-rounds-requires c κs =
+    let a = c .before .before .before .before .before .before .before .before .before .before .before .before .before .before .args in
+    let fit = c .before .before .before .before .before .before .before .before .before .before .before .before .before .before .pre in (
+      omega arith,
+      record {
+        order = fit .0;
+        round = omega arith;
+        keyed = fit .2 ∙ ap (λ (n : ℕ). suc (a .d) * n) (sym (keys-long (a .nk)));
+        drawn = fit .4;
+        x-long = fit .5;
+        y-long = fit .6;
+        t-long = fit .7;
+        s-long = c .before .before .before .before .before .before .add-key .kept .1 .1 .1 .1 .0 ∙ fit .3;
+      },
+    )
+
+same-length : tie.Need-same-length
+same-length c = search needs
+
+same-length-2 : tie.Need-same-length-2
+same-length-2 c = search needs
+
+same-length-3 : tie.Need-same-length-3
+same-length-3 c = search needs
+
+same-length-4 : tie.Need-same-length-4
+same-length-4 c = search needs
+
+returns : tie.Need-returns
+unfolding encrypted-with-need rounds
+returns c =
+    let a = c .before .before .before .before .before .before .before .before .before .before .before .before .before .before .before .before .before .before .before .before .before .before .before .args in
+    let fit = c .before .before .before .before .before .before .before .before .before .before .before .before .before .before .before .before .before .before .before .before .before .before .before .pre in
+    (c .before .before .before .before .before .before .before .before .run-rounds .ensures .0, encrypted-with-made (a .nk) (a .d) (now (a .keys)) (now (a .tape)) (now (a .output)) _ _ (fit .2) (fit .3) (c .before .before .before .before .before .before .before .before .before .before .before .before .before .before .before .add-key .ensures) (c .before .before .before .before .before .before .before .before .run-rounds .ensures .1))
+
+pub rounds-with-spec : {M : Type 1} → statement M
+rounds-with-spec =
+    tie.close
+    (tie.spec
+    add-nr
+    add-m
+    mul-m
+    add-key-requires
+    run-rounds-requires
+    same-length
+    same-length-2
+    same-length-3
+    same-length-4
+    returns)
