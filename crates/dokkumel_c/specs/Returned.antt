@@ -1,0 +1,17 @@
+-- What a call of the C interface gives back: a status, the count behind `taken`, and the output. Assumes nothing: these are definitions.
+use mathlib.Core.List.{List}
+use Prim.Native.Nat.{ℕ}
+use Rattle.shares.specs.Outcome.{Outcome, done, refused}
+
+pub record Returned : Type 0 where
+  pub status : ℕ
+  pub taken : ℕ
+  pub output : List ℕ
+
+abbrev pub gives : (status taken : ℕ) (output : List ℕ) → Returned
+gives s k q = record { status = s; taken = k; output = q }
+
+-- 0, with the count set, when the call was carried through; else document 01's number, and what stood behind `taken` stays
+abbrev pub returned : Outcome → (before : ℕ) → Returned
+returned (done k q) t = gives 0 k q
+returned (refused n q) t = gives n t q

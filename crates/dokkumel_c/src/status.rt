@@ -1,0 +1,36 @@
+// An answer as C gets it: a status, and the count behind a pointer.
+ghost use mathlib.Core.Path.{_≡_};
+ghost use Prim.Native.Nat.{ℕ};
+ghost use mathlib.Core.List.{List};
+ghost use Rattle.shares.specs.Outcome as Outcome;
+ghost use Rattle.dokkumel_c.specs.Returned.{gives, returned};
+use shares::Answer;
+use shares::Refusal;
+
+// Document 01's number of a refusal.
+fn number(r: Refusal) -> u32
+    ensures { λ n. ⌜ n ≡ Outcome.number r ⌝ }
+{
+    match r {
+        Refusal::Order => 1,
+        Refusal::Key => 2,
+        Refusal::Input => 3,
+        Refusal::Output => 4,
+        Refusal::Tape => 5,
+        Refusal::List => 6,
+        Refusal::Place => 7,
+    }
+}
+
+// 0 and the count where the call was carried through; else the refusal's number, and taken stays.
+pub fn give(answer: Answer, taken: &mut usize) -> u32
+    ensures { λ r. ⌜ ((q : List ℕ) → gives r (now (taken .exit)) q ≡ returned (Outcome.outcome answer q) (now (taken .entry))) ⌝ }
+{
+    match answer {
+        Answer::Taken(k) => {
+            *taken = k;
+            0
+        }
+        Answer::Refused(r) => number(r),
+    }
+}

@@ -1,0 +1,28 @@
+// Runs the masked AES on values known from elsewhere and compares: document 01's small values that no theorem covers, the published examples
+// of FIPS 197, and on standard input the lines that an unrelated AES made (make-stdin). Prints what was computed, line by line.
+mod answers;
+mod counts;
+mod hexadecimal;
+mod lines;
+mod outside;
+mod published;
+mod runs;
+mod tapes;
+mod text;
+mod values;
+
+use crate::counts::Tally;
+
+fn main() {
+    let mut tape = io::large_buffer();
+    let mut input = io::large_buffer();
+    let n = io::read_full(0, &mut input);
+    let start = Tally {
+        compared: 0,
+        different: 0,
+    };
+    let small = values::compare(start);
+    let known = published::compare(&mut tape, small);
+    let all = outside::compare(&input[..n], &mut tape, known);
+    counts::print(all);
+}
