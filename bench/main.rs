@@ -1,0 +1,95 @@
+//! Times the library against the yardstick, in one run and in turns, and prints ratios. Both encrypt the same blocks, and their outputs are compared.
+
+mod plain;
+
+use std::hint::black_box;
+use std::time::Instant;
+
+extern "C" {
+    #[allow(clippy::too_many_arguments)]
+    fn dokkumel_encrypt(
+        order: usize,
+        key: *const u8,
+        key_len: usize,
+        input: *const u8,
+        input_len: usize,
+        tape: *const u8,
+        tape_len: usize,
+        output: *mut u8,
+        output_len: usize,
+        taken: *mut usize,
+    ) -> u32;
+}
+
+/// The library's encryption; all lengths fit.
+fn library(order: usize, key: &[u8], input: &[u8], tape: &[u8], output: &mut [u8]) -> usize {
+    let mut taken = 0;
+    // The five buffers are live slices, and the library writes to output and taken only.
+    let status = unsafe {
+        dokkumel_encrypt(
+            order,
+            key.as_ptr(),
+            key.len(),
+            input.as_ptr(),
+            input.len(),
+            tape.as_ptr(),
+            tape.len(),
+            output.as_mut_ptr(),
+            output.len(),
+            &mut taken,
+        )
+    };
+    assert_eq!(status, 0, "refused");
+    taken
+}
+
+/// Bytes that look random, the same in every run.
+fn noise(seed: u64, len: usize) -> Vec<u8> {
+    let mut x = seed | 1;
+    (0..len)
+        .map(|_| {
+            x ^= x << 13;
+            x ^= x >> 7;
+            x ^= x << 17;
+            (x >> 24) as u8
+        })
+        .collect()
+}
+
+type Encrypt = fn(usize, &[u8], &[u8], &[u8], &mut [u8]) -> usize;
+
+/// Seconds for so many encryptions, each of the block before; and the last output.
+fn timed(encrypt: Encrypt, count: usize, order: usize, key: &[u8], block: &[u8], tape: &[u8]) -> (f64, Vec<u8>) {
+    let mut input = block.to_vec();
+    let mut output = vec![0; block.len()];
+    let start = Instant::now();
+    for _ in 0..count {
+        black_box(encrypt(order, key, &input, tape, &mut output));
+        input.copy_from_slice(&output);
+    }
+    (start.elapsed().as_secs_f64(), output)
+}
+
+/// The best time of each over some turns, taken alternately.
+fn compare(count: usize, order: usize) -> (f64, f64) {
+    let n = order + 1;
+    let (key, block) = (noise(1, 16 * n), noise(2, 16 * n));
+    let tape = noise(3, 200 * (2 * order * order + 4 * order));
+    let (mut ours, mut theirs) = (f64::MAX, f64::MAX);
+    for _ in 0..5 {
+        let (a, x) = timed(library, count, order, &key, &block, &tape);
+        let (b, y) = timed(plain::encrypt, count, order, &key, &block, &tape);
+        assert_eq!(x, y, "the outputs differ at order {order}");
+        ours = ours.min(a);
+        theirs = theirs.min(b);
+    }
+    (ours, theirs)
+}
+
+fn main() {
+    println!("encryptions with a 16-byte key, library against plain Rust with the same steps, best of 5 turns");
+    for (order, count) in [(2, 10_000), (1, 4000), (3, 2000), (4, 1000), (5, 1000), (6, 500), (7, 500), (8, 500)] {
+        let (ours, theirs) = compare(count, order);
+        println!("order {order}, {count:5} encryptions: {ours:.3} s, {theirs:.3} s, ratio {:.2}", ours / theirs);
+    }
+}

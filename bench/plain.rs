@@ -1,0 +1,201 @@
+//! The yardstick: masked AES in plain Rust, with the same steps and the same shift-and-add products as the library.
+//! Written from the steps alone, share after share, and simple on purpose.
+
+/// Doubling in AES's field.
+fn double(a: u8) -> u8 {
+    (a << 1) ^ (0x1b & 0u8.wrapping_sub(a >> 7))
+}
+
+/// The product by shift and add, lowest bit first.
+fn times(a: u8, b: u8) -> u8 {
+    let (mut p, mut x, mut y) = (0, a, b);
+    for _ in 0..8 {
+        p ^= x & 0u8.wrapping_sub(y & 1);
+        x = double(x);
+        y >>= 1;
+    }
+    p
+}
+
+/// The affine map of the S-box, by its row masks.
+fn affine(a: u8) -> u8 {
+    const ROWS: [u8; 8] = [0xf1, 0xe3, 0xc7, 0x8f, 0x1f, 0x3e, 0x7c, 0xf8];
+    let mut r = 0;
+    for (i, row) in ROWS.iter().enumerate() {
+        r ^= (((a & row).count_ones() % 2) as u8) << i;
+    }
+    r ^ 0x63
+}
+
+/// A tape that is read from its start, each byte once.
+struct Tape<'a> {
+    bytes: &'a [u8],
+    at: usize,
+}
+
+impl Tape<'_> {
+    fn draw(&mut self) -> u8 {
+        let t = self.bytes[self.at];
+        self.at += 1;
+        t
+    }
+}
+
+const MOST: usize = 9;
+type Shares = [u8; MOST];
+
+fn square_all(n: usize, x: &mut Shares, times_squared: usize) {
+    for share in x.iter_mut().take(n) {
+        for _ in 0..times_squared {
+            *share = times(*share, *share);
+        }
+    }
+}
+
+fn refresh(n: usize, x: &mut Shares, tape: &mut Tape) {
+    for i in 1..n {
+        let t = tape.draw();
+        x[0] ^= t;
+        x[i] ^= t;
+    }
+}
+
+fn product(n: usize, a: &Shares, b: &Shares, tape: &mut Tape) -> Shares {
+    let mut r = [[0u8; MOST]; MOST];
+    for i in 0..n {
+        for j in i + 1..n {
+            let t = tape.draw();
+            r[i][j] = t;
+            r[j][i] = (t ^ times(a[i], b[j])) ^ times(a[j], b[i]);
+        }
+    }
+    let mut c = [0u8; MOST];
+    for i in 0..n {
+        let mut s = times(a[i], b[i]);
+        for j in 0..n {
+            if j != i {
+                s ^= r[i][j];
+            }
+        }
+        c[i] = s;
+    }
+    c
+}
+
+fn s_box(n: usize, x: &Shares, tape: &mut Tape) -> Shares {
+    let mut z = *x;
+    square_all(n, &mut z, 1);
+    refresh(n, &mut z, tape);
+    let y = product(n, &z, x, tape);
+    let mut w = y;
+    square_all(n, &mut w, 2);
+    refresh(n, &mut w, tape);
+    let mut y = product(n, &y, &w, tape);
+    square_all(n, &mut y, 4);
+    let y = product(n, &y, &w, tape);
+    let mut y = product(n, &y, &z, tape);
+    for share in y.iter_mut().take(n) {
+        *share = affine(*share);
+    }
+    if n % 2 == 0 {
+        y[0] ^= 0x63;
+    }
+    y
+}
+
+/// The S-box of byte k of a string in n shares of l bytes.
+fn substitute(n: usize, l: usize, k: usize, s: &mut [u8], tape: &mut Tape) {
+    let mut x = [0u8; MOST];
+    for i in 0..n {
+        x[i] = s[i * l + k];
+    }
+    let y = s_box(n, &x, tape);
+    for i in 0..n {
+        s[i * l + k] = y[i];
+    }
+}
+
+fn expand(n: usize, nk: usize, key: &[u8], tape: &mut Tape) -> Vec<u8> {
+    let total = 4 * (nk + 7);
+    let m = 4 * total;
+    let mut keys = vec![0u8; n * m];
+    for i in 0..n {
+        keys[i * m..i * m + 4 * nk].copy_from_slice(&key[i * 4 * nk..(i + 1) * 4 * nk]);
+    }
+    let mut rcon = 1;
+    for w in nk..total {
+        let mut t = [0u8; 4 * MOST];
+        for i in 0..n {
+            t[i * 4..i * 4 + 4].copy_from_slice(&keys[i * m + 4 * (w - 1)..i * m + 4 * w]);
+        }
+        if w % nk == 0 || (nk > 6 && w % nk == 4) {
+            for k in 0..4 {
+                substitute(n, 4, k, &mut t[..4 * n], tape);
+            }
+        }
+        if w % nk == 0 {
+            for i in 0..n {
+                t[i * 4..i * 4 + 4].rotate_left(1);
+            }
+            t[0] ^= rcon;
+            rcon = double(rcon);
+        }
+        for i in 0..n {
+            for k in 0..4 {
+                keys[i * m + 4 * w + k] = keys[i * m + 4 * (w - nk) + k] ^ t[i * 4 + k];
+            }
+        }
+    }
+    keys
+}
+
+fn add_round_key(n: usize, m: usize, r: usize, keys: &[u8], s: &mut [u8]) {
+    for i in 0..n {
+        for k in 0..16 {
+            s[i * 16 + k] ^= keys[i * m + 16 * r + k];
+        }
+    }
+}
+
+fn shift_rows(s: &mut [u8]) {
+    let mut t = [0u8; 16];
+    t.copy_from_slice(s);
+    for k in 0..16 {
+        s[k] = t[k % 4 + 4 * ((k / 4 + k % 4) % 4)];
+    }
+}
+
+fn mix_columns(s: &mut [u8]) {
+    let mut t = [0u8; 16];
+    t.copy_from_slice(s);
+    for k in 0..16 {
+        let (r, c) = (k % 4, 4 * (k / 4));
+        let (a, b) = (t[c + r], t[c + (r + 1) % 4]);
+        s[k] = double(a) ^ double(b) ^ b ^ t[c + (r + 2) % 4] ^ t[c + (r + 3) % 4];
+    }
+}
+
+/// One block; all lengths fit. Answers with how many tape bytes were drawn.
+pub fn encrypt(order: usize, key: &[u8], input: &[u8], tape: &[u8], output: &mut [u8]) -> usize {
+    let n = order + 1;
+    let nk = key.len() / n / 4;
+    let nr = nk + 6;
+    let m = 16 * (nr + 1);
+    let mut tape = Tape { bytes: tape, at: 0 };
+    let keys = expand(n, nk, key, &mut tape);
+    output.copy_from_slice(input);
+    add_round_key(n, m, 0, &keys, output);
+    for r in 1..=nr {
+        for k in 0..16 {
+            substitute(n, 16, k / 4 + 4 * (k % 4), output, &mut tape);
+        }
+        for share in output.chunks_exact_mut(16) {
+            shift_rows(share);
+            if r < nr {
+                mix_columns(share);
+            }
+        }
+        add_round_key(n, m, r, &keys, output);
+    }
+    tape.at
+}
