@@ -1,5 +1,4 @@
 -- What the routines of a round ask of their slices. Assumes nothing: these are definitions.
--- Inner contracts: no document decides them, but for the three key sizes, which are FIPS 197's.
 use mathlib.Core.Path.{_≡_}
 use mathlib.Core.List.{List}
 use Prim.Native.Nat.{ℕ, suc, _+_, _*_, _-_, _≤_}

@@ -1,5 +1,4 @@
 -- Operations on strings in shares: one byte of all shares, XOR share by share, one string behind the other. Assumes nothing: these are definitions.
--- Tools of `Cipher`; document 01 decides the layout, which is in the crate shares, `Strings`.
 use mathlib.Core.List.{List, [], _∷_, _++_, map}
 use Prim.Native.Nat.{ℕ}
 use lib.ListN.{set}

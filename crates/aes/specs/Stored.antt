@@ -1,5 +1,4 @@
 -- What the loops over shares do to a buffer. Assumes nothing: these are definitions.
--- Inner contracts: no document decides them.
 use mathlib.Core.List.{List, [], _∷_, _++_}
 use mathlib.Core.Path.{_≡_}
 use Prim.Native.Nat.{ℕ, suc, _+_, _*_, _-_, _/_, _≤_}
