@@ -13,10 +13,10 @@ use Rattle.shares.specs.Strings.{joined-string, parts}
 use Rattle.shares.specs.Calls.{Join-outcome}
 use Rattle.shares.proofs.OutcomeLaws.{guarded-inverse, guarded-fits, share-length-cases, share-length-is}
 use Rattle.shares.proofs.StringsLaws.{laid-length, shared-parts}
-use Rattle.aes.specs.Fips197.{cipher}
-use Rattle.aes.specs.Cipher.{encrypted-laid}
+use Rattle.cipher.specs.Fips197.{cipher}
+use Rattle.cipher.specs.Cipher.{encrypted-laid}
 use Rattle.aes.specs.Calls.{key-words, Encrypt-outcome}
-use Rattle.aes.proofs.Accuracy.{encrypted-shared, cipher-joins-laid}
+use Rattle.cipher.proofs.Accuracy.{encrypted-shared, cipher-joins-laid}
 
 -- a key of nk words has 4 · nk bytes in each share, and nk is not 0
 pub key-words-are : (d l : ℕ) → 0 < key-words d l → (1 ≤ key-words d l) × (l ≡ (d + 1) * (4 * key-words d l))

@@ -19,11 +19,11 @@ use Rattle.shares.proofs.OutcomeLaws.{check-taken, share-length-cases, share-le
 use Rattle.sbox.specs.Box.{box-need}
 use Rattle.sbox.proofs.BoxLaws.{box-need-is}
 use Rattle.aes.specs.Fits.{Key-size, four, six, eight}
-use Rattle.aes.specs.Fips197.{rounds}
-use Rattle.aes.specs.Cipher.{schedule, schedule-need, encrypted-with, encrypted, cipher-need, encrypted-laid}
+use Rattle.cipher.specs.Fips197.{rounds}
+use Rattle.cipher.specs.Cipher.{schedule, schedule-need, encrypted-with, encrypted, cipher-need, encrypted-laid}
 use Rattle.aes.specs.Calls.{key-words, boxes-of}
-use Rattle.aes.proofs.Accuracy.{schedule-shared}
-use Rattle.aes.proofs.NeedLaws.{counted}
+use Rattle.cipher.proofs.Accuracy.{schedule-shared}
+use Rattle.cipher.proofs.NeedLaws.{counted}
 
 -- ---- refusal 2
 

@@ -9,12 +9,12 @@ use lib.Seq.{drop-drop}
 use Rattle.shares.specs.Strings.{Shares, Shared, parts, laid}
 use Rattle.shares.proofs.StringsLaws.{laid-length, parts-laid, shared-parts}
 use Rattle.shares.proofs.WriteLaws.{part-rest}
-use Rattle.aes.specs.Fips197.{shift-rows, mix-columns, rounds}
-use Rattle.aes.specs.States.{adds}
-use Rattle.aes.specs.Cipher.{subs, by-rows, round-keys, masked-round, masked-last-round, round-need, masked-rounds, rounds-need, encrypted-with}
-use Rattle.aes.proofs.StatesLaws.{map-shared, adds-shared}
-use Rattle.aes.proofs.FipsLaws.{mix-columns-length}
-use Rattle.aes.proofs.CipherLaws.{subs-shared, rows-shared, round-keys-shared, round-shared}
+use Rattle.cipher.specs.Fips197.{shift-rows, mix-columns, rounds}
+use Rattle.cipher.specs.States.{adds}
+use Rattle.cipher.specs.Cipher.{subs, by-rows, round-keys, masked-round, masked-last-round, round-need, masked-rounds, rounds-need, encrypted-with}
+use Rattle.cipher.proofs.StatesLaws.{map-shared, adds-shared}
+use Rattle.cipher.proofs.FipsLaws.{mix-columns-length}
+use Rattle.cipher.proofs.CipherLaws.{subs-shared, rows-shared, round-keys-shared, round-shared}
 
 -- ---- one round
 

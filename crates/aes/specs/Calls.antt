@@ -5,7 +5,7 @@ use Prim.Native.Nat.{ℕ, _+_, _*_, _/_}
 use lib.Dec.{ltb, eqb}
 use lib.ListN.{length}
 use Rattle.shares.specs.Outcome.{Outcome, guarded, share-length}
-use Rattle.aes.specs.Cipher.{encrypted-laid, cipher-need}
+use Rattle.cipher.specs.Cipher.{encrypted-laid, cipher-need}
 
 -- how many words the key has, by the length of its n = d + 1 shares: 4, 6 or 8, and 0 where the length is no key's
 unfoldable pub key-words : (d length : ℕ) → ℕ

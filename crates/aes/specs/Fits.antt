@@ -1,9 +1,10 @@
 -- What the routines of a round ask of their slices. Assumes nothing: these are definitions.
+-- Inner contracts: no document decides them, but for the three key sizes, which are FIPS 197's.
 use mathlib.Core.Path.{_≡_}
 use mathlib.Core.List.{List}
 use Prim.Native.Nat.{ℕ, suc, _+_, _*_, _-_, _≤_}
 use lib.ListN.{length}
-use Rattle.aes.specs.Cipher.{round-need, rounds-need}
+use Rattle.cipher.specs.Cipher.{round-need, rounds-need}
 
 pub record Round-fits (d m r : ℕ) (keys tape x y t s : List ℕ) : Type 0 where
   pub order : d ≤ 8

@@ -3,8 +3,8 @@ ghost use mathlib.Core.Path.{_≡_};
 ghost use Prim.Native.Nat.{suc, _+_, _*_, _≤_};
 ghost use lib.ListN.{length};
 ghost use Rattle.shares.specs.Outcome.{outcome};
-ghost use Rattle.aes.specs.Fips197.{rounds};
-ghost use Rattle.aes.specs.Cipher as Cipher;
+ghost use Rattle.cipher.specs.Fips197.{rounds};
+ghost use Rattle.cipher.specs.Cipher as Cipher;
 ghost use Rattle.aes.specs.Fits.{Key-size};
 ghost use Rattle.aes.specs.Calls.{key-words, boxes-of, Encrypt-outcome};
 use shares::Answer;
@@ -52,7 +52,7 @@ fn encrypt_with(
     requires { ⌜ (d ≤ 8) × (1 ≤ nk) × (nk ≤ 8) × (length (now key) ≡ suc d * (4 * nk)) × (length (now input) ≡ suc d * 16) × (length (now keys) ≡ suc d * (16 * suc (rounds nk))) × (length (now output) ≡ suc d * 16) × (Cipher.cipher-need nk d ≤ length (now tape)) ⌝ }
     ensures { λ r. ⌜ (r ≡ Cipher.cipher-need nk d) × (now (output .exit) ≡ Cipher.encrypted-laid nk d (now (key .entry)) (now (input .entry)) (now (tape .entry))) ⌝ }
 {
-    let drawn = crate::schedule::expand_core(nk, d, key, tape, keys);
+    let drawn = schedule::expansion::expand_core(nk, d, key, tape, keys);
     drawn + crate::rounds::rounds_core(nk, d, keys, input, &tape[drawn..], output)
 }
 

@@ -3,8 +3,8 @@ ghost use mathlib.Core.Path.{_≡_};
 ghost use Prim.Native.Nat.{suc, _+_, _*_, _-_, _≤_};
 ghost use lib.ListN.{length};
 ghost use Rattle.shares.specs.Strings.{parts, laid};
-ghost use Rattle.aes.specs.Fips197.{rounds};
-ghost use Rattle.aes.specs.Cipher.{round-need, rounds-need, masked-round, masked-last-round, masked-rounds, encrypted-with, encrypted-with-need};
+ghost use Rattle.cipher.specs.Fips197.{rounds};
+ghost use Rattle.cipher.specs.Cipher.{round-need, rounds-need, masked-round, masked-last-round, masked-rounds, encrypted-with, encrypted-with-need};
 ghost use Rattle.aes.specs.Fits.{Round-fits, Rounds-fit};
 
 // A round that is not the last. Answers with how many bytes were drawn.
@@ -22,10 +22,10 @@ fn full_round(
     requires { ⌜ Round-fits d m r (now keys) (now tape) (now x) (now y) (now t) (now s) ⌝ }
     ensures { λ q. ⌜ (q ≡ round-need d) × (now (s .exit) ≡ laid (masked-round d r (parts (suc d) m (now (keys .entry))) (parts (suc d) 16 (now (s .entry))) (now (tape .entry)))) ⌝ }
 {
-    let drawn = crate::substitution::sub_rows(d, tape, x, y, s);
-    crate::linear::shift_all(d, t, s);
-    crate::linear::mix_all(d, t, s);
-    crate::linear::add_key(d, m, r, keys, s);
+    let drawn = state::substitution::sub_rows(d, tape, x, y, s);
+    state::linear::shift_all(d, t, s);
+    state::linear::mix_all(d, t, s);
+    state::linear::add_key(d, m, r, keys, s);
     drawn
 }
 
@@ -44,9 +44,9 @@ fn last_round(
     requires { ⌜ Round-fits d m r (now keys) (now tape) (now x) (now y) (now t) (now s) ⌝ }
     ensures { λ q. ⌜ (q ≡ round-need d) × (now (s .exit) ≡ laid (masked-last-round d r (parts (suc d) m (now (keys .entry))) (parts (suc d) 16 (now (s .entry))) (now (tape .entry)))) ⌝ }
 {
-    let drawn = crate::substitution::sub_rows(d, tape, x, y, s);
-    crate::linear::shift_all(d, t, s);
-    crate::linear::add_key(d, m, r, keys, s);
+    let drawn = state::substitution::sub_rows(d, tape, x, y, s);
+    state::linear::shift_all(d, t, s);
+    state::linear::add_key(d, m, r, keys, s);
     drawn
 }
 
@@ -89,7 +89,7 @@ fn rounds_with(
 {
     let nr = nk + 6;
     let m = 16 * (nr + 1);
-    crate::linear::add_key(d, m, 0, keys, output);
+    state::linear::add_key(d, m, 0, keys, output);
     run_rounds(nr, d, m, keys, tape, x, y, t, output)
 }
 

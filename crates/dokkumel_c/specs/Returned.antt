@@ -1,4 +1,5 @@
 -- What a call of the C interface gives back: a status, the count behind `taken`, and the output. Assumes nothing: these are definitions.
+-- Document 01's table decides the numbers.
 use mathlib.Core.List.{List}
 use Prim.Native.Nat.{ℕ}
 use Rattle.shares.specs.Outcome.{Outcome, done, refused}

@@ -7,7 +7,7 @@ use borrow.Author.Needs.{needs}
 use denote.Ref.{now}
 use lib.ListN.{length}
 use Rattle.shares.proofs.OutcomeLaws.{served-bounds, guarded-unserved, guarded-refused, guarded-done}
-use Rattle.aes.specs.Cipher.{encrypted-laid}
+use Rattle.cipher.specs.Cipher.{encrypted-laid}
 use Rattle.aes.specs.Calls.{key-words, Encrypt-outcome}
 use Rattle.aes.proofs.CallsLaws.{guarded-key, size-bounds, encrypt-sized, encrypt-checked, encrypt-ready}
 use Rattle.aes.proofs.encryption.encrypt.Statement.{statement}

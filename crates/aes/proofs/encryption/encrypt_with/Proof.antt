@@ -6,7 +6,7 @@ use borrow.Author.Needs.{needs}
 use denote.Ref.{now}
 use lib.ListN.{length, take, drop}
 use Rattle.shares.proofs.WriteLaws.{length-part-rest}
-use Rattle.aes.specs.Cipher.{schedule-need, encrypted-with-need, cipher-need}
+use Rattle.cipher.specs.Cipher.{schedule-need, encrypted-with-need, cipher-need}
 use Rattle.aes.proofs.CallsLaws.{encrypted-made}
 use Rattle.aes.proofs.encryption.encrypt_with.Statement.{statement}
 use Rattle.aes.proofs.encryption.encrypt_with.Tie as tie

@@ -8,8 +8,8 @@ use borrow.Author.Needs.{needs}
 use denote.Ref.{now}
 use Rattle.shares.specs.Strings.{parts, laid}
 use Rattle.shares.proofs.WriteLaws.{length-part-first, front-all}
-use Rattle.aes.specs.Fips197.{rounds}
-use Rattle.aes.specs.Cipher.{encrypted-with}
+use Rattle.cipher.specs.Fips197.{rounds}
+use Rattle.cipher.specs.Cipher.{encrypted-with}
 use Rattle.aes.proofs.rounds.rounds_core.Statement.{statement}
 use Rattle.aes.proofs.rounds.rounds_core.Tie as tie
 

@@ -4,8 +4,8 @@ use Prim.Native.Nat.{ℕ, suc, _*_, _-_}
 use native.Mathlib.Omega.{arith}
 use borrow.Author.Needs.{needs}
 use denote.Ref.{now}
-use Rattle.aes.specs.Fips197.{rounds}
-use Rattle.aes.specs.Cipher.{encrypted-with-need}
+use Rattle.cipher.specs.Fips197.{rounds}
+use Rattle.cipher.specs.Cipher.{encrypted-with-need}
 use Rattle.aes.proofs.RoundLaws.{keys-long, encrypted-with-made}
 use Rattle.aes.proofs.rounds.rounds_with.Statement.{statement}
 use Rattle.aes.proofs.rounds.rounds_with.Tie as tie

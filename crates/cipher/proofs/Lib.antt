@@ -1,0 +1,11 @@
+pub mod StringLaws
+pub mod StatesLaws
+pub mod FipsLaws
+pub mod CipherLaws
+pub mod Accuracy
+pub mod NeedLaws
+pub mod SurplusLaws
+pub mod SmallValues
+pub mod Example
+pub mod TurnedLaws
+pub mod Document03Laws

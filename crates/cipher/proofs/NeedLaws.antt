@@ -1,0 +1,55 @@
+-- How much tape each step takes, in closed form: document 01's counts and its table. Assumes nothing.
+use mathlib.Core.Path.{_≡_, refl, ap, _∙_}
+use mathlib.Core.List.{[], _∷_, map}
+use Prim.Native.Nat.{ℕ, zero, suc, _+_, _*_, _-_}
+use native.Mathlib.Nat.{suc-mul}
+use native.Mathlib.Omega.{arith}
+use Rattle.xor.specs.Lists.{tab, runs}
+use Rattle.isw.specs.Place.{before-row, product-need}
+use Rattle.shares.specs.Refresh.{refresh-pairs, refresh-need}
+use Rattle.sbox.specs.Box.{stage-need, box-need}
+use Rattle.cipher.specs.Fips197.{kind, rounds, total-words}
+use Rattle.cipher.specs.Cipher.{subs-need, temp-need, schedule-from-need, schedule-need, rounds-need, encrypted-with-need, cipher-need}
+
+-- ---- key expansion: 40, 32 and 52 S-boxes
+
+pub schedule-need-4 : (d : ℕ) → schedule-need 4 d ≡ 40 * box-need d
+unfolding schedule-need schedule-from-need temp-need kind subs-need rounds total-words
+schedule-need-4 d = omega arith
+
+pub schedule-need-6 : (d : ℕ) → schedule-need 6 d ≡ 32 * box-need d
+unfolding schedule-need schedule-from-need temp-need kind subs-need rounds total-words
+schedule-need-6 d = omega arith
+
+pub schedule-need-8 : (d : ℕ) → schedule-need 8 d ≡ 52 * box-need d
+unfolding schedule-need schedule-from-need temp-need kind subs-need rounds total-words
+schedule-need-8 d = omega arith
+
+-- ---- rounds: 16 S-boxes each
+
+rounds-need-is : (left d : ℕ) → rounds-need left d ≡ suc left * (16 * box-need d)
+unfolding rounds-need subs-need
+rounds-need-is zero d = omega arith
+rounds-need-is (suc left) d = let ih = rounds-need-is left d in omega (arith, suc-mul (suc left) (16 * box-need d))
+
+-- 160, 192 and 224 S-boxes
+pub encrypted-with-need-is : (nk d : ℕ) → encrypted-with-need nk d ≡ rounds nk * (16 * box-need d)
+unfolding encrypted-with-need rounds
+encrypted-with-need-is nk d = rounds-need-is (nk + 6 - 1) d ∙ ap (λ (n : ℕ). n * (16 * box-need d)) (omega arith)
+
+-- ---- encryption with its key expansion: 200, 224 and 276 S-boxes
+
+pub record Counted (d : ℕ) : Type 0 where
+  pub key-16 : cipher-need 4 d ≡ 200 * box-need d
+  pub key-24 : cipher-need 6 d ≡ 224 * box-need d
+  pub key-32 : cipher-need 8 d ≡ 276 * box-need d
+
+pub counted : (d : ℕ) → Counted d
+unfolding cipher-need rounds
+counted d = omega (arith, schedule-need-4 d, schedule-need-6 d, schedule-need-8 d, encrypted-with-need-is 4 d, encrypted-with-need-is 6 d, encrypted-with-need-is 8 d)
+
+-- document 01's table: a row for each size of key, at orders 1, 2 and 8
+pub tape-table : map (λ nk. map (cipher-need nk) (1 ∷ 2 ∷ 8 ∷ [])) (4 ∷ 6 ∷ 8 ∷ [])
+    ≡ (1200 ∷ 3200 ∷ 32000 ∷ []) ∷ (1344 ∷ 3584 ∷ 35840 ∷ []) ∷ (1656 ∷ 4416 ∷ 44160 ∷ []) ∷ []
+unfolding cipher-need encrypted-with-need rounds-need schedule-need schedule-from-need temp-need kind subs-need rounds total-words box-need stage-need refresh-need refresh-pairs product-need before-row tab runs
+tape-table = refl

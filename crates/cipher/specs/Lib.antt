@@ -1,0 +1,4 @@
+pub mod Fips197
+pub mod States
+pub mod Cipher
+pub mod Document03

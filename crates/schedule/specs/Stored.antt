@@ -1,0 +1,44 @@
+-- What a word of the key expansion does to the buffer, and what its routines ask of their slices. Assumes nothing: these are definitions.
+-- Inner contracts: no document decides them.
+use mathlib.Core.List.{List, _++_}
+use mathlib.Core.Path.{_≡_}
+use Prim.Native.Nat.{ℕ, suc, _+_, _*_, _-_, _/_, _≤_}
+use lib.ListN.{length, take, drop}
+use Rattle.xor.specs.Sums.{xors}
+use Rattle.shares.specs.Strings.{parts, laid}
+use Rattle.cipher.specs.Fips197.{word, kind}
+use Rattle.cipher.specs.States.{each-by}
+use Rattle.cipher.specs.Cipher.{words, masked-temp, temp-need, schedule-from-need}
+
+-- word i written into share j, from the shares t of the temporary word
+abbrev pub stored : (nk i : ℕ) (t : List ℕ) → ℕ → List ℕ → List ℕ
+stored nk i t j k = take (4 * i) k ++ (xors (word k (i - nk)) (take 4 (drop (j * 4) t)) ++ drop (4 * i + 4) k)
+
+-- word i written into all shares of m bytes
+unfoldable pub word-stored : (nk d m i : ℕ) (keys tape : List ℕ) → List ℕ
+word-stored nk d m i keys tape =
+    let t₀ = laid (words (parts (suc d) m keys) (i - 1)) in
+    let t₁ = laid (masked-temp d (kind nk i) (i / nk) (parts (suc d) 4 t₀) tape) in
+    laid (each-by (stored nk i t₁) 0 (parts (suc d) m keys))
+
+pub record Word-fits (nk d m i : ℕ) (keys tape x y t : List ℕ) : Type 0 where
+  pub order : d ≤ 8
+  pub some : 1 ≤ nk
+  pub past : nk ≤ i
+  pub room : 4 * i + 4 ≤ m
+  pub keyed : length keys ≡ suc d * m
+  pub drawn : temp-need d (kind nk i) ≤ length tape
+  pub x-long : length x ≡ suc d
+  pub y-long : length y ≡ suc d
+  pub t-long : length t ≡ suc d * 4
+
+pub record Expand-fits (nk d total : ℕ) (keys tape x y t : List ℕ) : Type 0 where
+  pub order : d ≤ 8
+  pub some : 1 ≤ nk
+  pub past : nk ≤ total
+  pub keyed : length keys ≡ suc d * (4 * total)
+  pub drawn : schedule-from-need (total - nk) nk nk d ≤ length tape
+  pub x-long : length x ≡ suc d
+  pub y-long : length y ≡ suc d
+  pub t-long : length t ≡ suc d * 4
+  pub small : total ≤ 60

@@ -1,0 +1,86 @@
+// Key expansion over shares, in a buffer of m bytes for each share, whose first 4 * nk are the key. x, y and t are scratch.
+ghost use mathlib.Core.Path.{_≡_};
+ghost use mathlib.Core.List.{map};
+ghost use Prim.Native.Nat.{suc, _*_, _-_, _≤_};
+ghost use lib.ListN.{length, take};
+ghost use Rattle.shares.specs.Strings.{parts, laid};
+ghost use Rattle.cipher.specs.Fips197.{rounds};
+ghost use Rattle.cipher.specs.Cipher.{schedule-from, schedule-from-need, schedule, schedule-need};
+ghost use Rattle.schedule.specs.Stored.{Expand-fits};
+
+// All words from nk on, ascending. Answers with how many bytes were drawn.
+fn expand(
+    nk: usize,
+    d: usize,
+    total: usize,
+    tape: &[u8],
+    x: &mut [u8],
+    y: &mut [u8],
+    t: &mut [u8],
+    keys: &mut [u8],
+) -> usize
+    requires { ⌜ Expand-fits nk d total (now keys) (now tape) (now x) (now y) (now t) ⌝ }
+    ensures { λ r. ⌜ (r ≡ schedule-from-need (total - nk) nk nk d) × (map (take (4 * total)) (parts (suc d) (4 * total) (now (keys .exit))) ≡ schedule-from (total - nk) nk nk d (map (take (4 * nk)) (parts (suc d) (4 * total) (now (keys .entry)))) (now (tape .entry))) ⌝ }
+{
+    let m = 4 * total;
+    let mut at: usize = 0;
+    for i in nk..total {
+        at += crate::word::next_word(nk, d, m, i, &tape[at..], x, y, t, keys);
+    }
+    at
+}
+
+// Each share of the key, of l bytes, to the front of each share of the buffer, of m bytes.
+fn lay_key(d: usize, l: usize, m: usize, key: &[u8], keys: &mut [u8])
+    requires { ⌜ (d ≤ 8) × (l ≤ m) × (length (now key) ≡ suc d * l) × (length (now keys) ≡ suc d * m) ⌝ }
+    ensures { λ _. ⌜ map (take l) (parts (suc d) m (now (keys .exit))) ≡ parts (suc d) l (now (key .entry)) ⌝ }
+{
+    for i in 0..d + 1 {
+        let a = i * l;
+        let e = a + l;
+        let b = i * m;
+        let f = b + m;
+        shares::bytes::put(&key[a..e], &mut keys[b..f]);
+    }
+}
+
+// The round keys in shares, share after share, with room for the scratch. Answers with how many bytes were drawn.
+fn expand_with(
+    nk: usize,
+    d: usize,
+    key: &[u8],
+    tape: &[u8],
+    x: &mut [u8],
+    y: &mut [u8],
+    t: &mut [u8],
+    keys: &mut [u8],
+) -> usize
+    requires { ⌜ (d ≤ 8) × (1 ≤ nk) × (nk ≤ 8) × (length (now key) ≡ suc d * (4 * nk)) × (length (now keys) ≡ suc d * (16 * suc (rounds nk))) × (schedule-need nk d ≤ length (now tape)) × (length (now x) ≡ suc d) × (length (now y) ≡ suc d) × (length (now t) ≡ suc d * 4) ⌝ }
+    ensures { λ q. ⌜ (q ≡ schedule-need nk d) × (now (keys .exit) ≡ laid (schedule nk d (parts (suc d) (4 * nk) (now (key .entry))) (now (tape .entry)))) ⌝ }
+{
+    let total = 4 * (nk + 7);
+    lay_key(d, 4 * nk, 4 * total, key, keys);
+    expand(nk, d, total, tape, x, y, t, keys)
+}
+
+// The round keys in shares, share after share. Answers with how many bytes were drawn.
+pub fn expand_core(nk: usize, d: usize, key: &[u8], tape: &[u8], keys: &mut [u8]) -> usize
+    requires { ⌜ (d ≤ 8) × (1 ≤ nk) × (nk ≤ 8) × (length (now key) ≡ suc d * (4 * nk)) × (length (now keys) ≡ suc d * (16 * suc (rounds nk))) × (schedule-need nk d ≤ length (now tape)) ⌝ }
+    ensures { λ q. ⌜ (q ≡ schedule-need nk d) × (now (keys .exit) ≡ laid (schedule nk d (parts (suc d) (4 * nk) (now (key .entry))) (now (tape .entry)))) ⌝ }
+{
+    let mut x = [0u8; 9];
+    let mut y = [0u8; 9];
+    let mut t = [0u8; 36];
+    let n = d + 1;
+    let w = n * 4;
+    expand_with(
+        nk,
+        d,
+        key,
+        tape,
+        &mut x[0..n],
+        &mut y[0..n],
+        &mut t[0..w],
+        keys,
+    )
+}

@@ -1,0 +1,119 @@
+// One word of the key expansion over shares, in a buffer of m bytes for each share. x, y and t are scratch.
+ghost use mathlib.Core.Path.{_≡_};
+ghost use mathlib.Core.List.{_++_};
+ghost use Prim.Native.Nat.{suc, _+_, _*_, _-_, _/_, _≤_};
+ghost use lib.ListN.{length, take, drop};
+ghost use Rattle.xor.specs.Sums.{xors};
+ghost use Rattle.gf256.specs.Field.{power};
+ghost use Rattle.shares.specs.Strings.{parts, laid};
+ghost use Rattle.cipher.specs.Fips197.{Kind, kind, word};
+ghost use Rattle.cipher.specs.States.{each-by};
+ghost use Rattle.cipher.specs.Cipher.{subs-need, in-word, words, masked-temp, temp-need};
+ghost use Rattle.schedule.specs.Stored.{stored, word-stored, Word-fits};
+
+// The first byte of Rcon[j]: 02 to the power j - 1.
+fn rcon(j: usize) -> u8
+    requires { ⌜ 1 ≤ j ⌝ }
+    ensures { λ r. ⌜ r ≡ power 2 (j - 1) ⌝ }
+{
+    let mut r: u8 = 1;
+    for i in 1..j {
+        r = gf256::double(r);
+    }
+    r
+}
+
+// Word w of each share.
+fn fetch(d: usize, m: usize, w: usize, keys: &[u8], t: &mut [u8])
+    requires { ⌜ (d ≤ 8) × (4 * w + 4 ≤ m) × (length (now keys) ≡ suc d * m) × (length (now t) ≡ suc d * 4) ⌝ }
+    ensures { λ _. ⌜ now (t .exit) ≡ laid (words (parts (suc d) m (now (keys .entry))) w) ⌝ }
+{
+    for i in 0..d + 1 {
+        let a = i * 4;
+        let e = a + 4;
+        let b = i * m + 4 * w;
+        let f = b + 4;
+        shares::bytes::put(&keys[b..f], &mut t[a..e]);
+    }
+}
+
+// Word i of one share k, from its word i - nk and the temporary word t.
+fn store_word(nk: usize, i: usize, t: &[u8], k: &mut [u8])
+    requires { ⌜ (1 ≤ nk) × (nk ≤ i) × (4 * i + 4 ≤ length (now k)) × (length (now t) ≡ 4) ⌝ }
+    ensures { λ _. ⌜ now (k .exit) ≡ take (4 * i) (now (k .entry)) ++ (xors (word (now (k .entry)) (i - nk)) (now (t .entry)) ++ drop (4 * i + 4) (now (k .entry))) ⌝ }
+{
+    for b in 0..4 {
+        k[4 * i + b] = k[4 * (i - nk) + b] ^ t[b];
+    }
+}
+
+// Word i of each share.
+fn store_all(nk: usize, d: usize, m: usize, i: usize, t: &[u8], keys: &mut [u8])
+    requires { ⌜ (d ≤ 8) × (1 ≤ nk) × (nk ≤ i) × (4 * i + 4 ≤ m) × (length (now keys) ≡ suc d * m) × (length (now t) ≡ suc d * 4) ⌝ }
+    ensures { λ _. ⌜ now (keys .exit) ≡ laid (each-by (stored nk i (now (t .entry))) 0 (parts (suc d) m (now (keys .entry)))) ⌝ }
+{
+    for j in 0..d + 1 {
+        let a = j * m;
+        let e = a + m;
+        let b = j * 4;
+        let f = b + 4;
+        store_word(nk, i, &t[b..f], &mut keys[a..e]);
+    }
+}
+
+// The temporary word where i is a multiple of nk: S-boxes, RotWord, and Rcon into share 0. Answers with how many bytes were drawn.
+fn turned_temp(d: usize, j: usize, tape: &[u8], x: &mut [u8], y: &mut [u8], t: &mut [u8]) -> usize
+    requires { ⌜ (d ≤ 8) × (1 ≤ j) × (length (now t) ≡ suc d * 4) × (length (now x) ≡ suc d) × (length (now y) ≡ suc d) × (subs-need d in-word ≤ length (now tape)) ⌝ }
+    ensures { λ r. ⌜ (r ≡ subs-need d in-word) × (now (t .exit) ≡ laid (masked-temp d Kind.turned j (parts (suc d) 4 (now (t .entry))) (now (tape .entry)))) ⌝ }
+{
+    let drawn = state::substitution::sub_word(d, tape, x, y, t);
+    state::linear::rot_all(d, t);
+    t[0] = t[0] ^ rcon(j);
+    drawn
+}
+
+// The temporary word as word i wants it. Answers with how many bytes were drawn.
+fn make_temp(
+    nk: usize,
+    d: usize,
+    i: usize,
+    tape: &[u8],
+    x: &mut [u8],
+    y: &mut [u8],
+    t: &mut [u8],
+) -> usize
+    requires { ⌜ (d ≤ 8) × (1 ≤ nk) × (nk ≤ i) × (length (now t) ≡ suc d * 4) × (length (now x) ≡ suc d) × (length (now y) ≡ suc d) × (temp-need d (kind nk i) ≤ length (now tape)) ⌝ }
+    ensures { λ r. ⌜ (r ≡ temp-need d (kind nk i)) × (now (t .exit) ≡ laid (masked-temp d (kind nk i) (i / nk) (parts (suc d) 4 (now (t .entry))) (now (tape .entry)))) ⌝ }
+{
+    let left = i % nk;
+    if left == 0 {
+        return turned_temp(d, i / nk, tape, x, y, t);
+    }
+    if nk > 6 {
+        if left == 4 {
+            return state::substitution::sub_word(d, tape, x, y, t);
+        }
+    }
+    0
+}
+
+// Word i in all shares. Answers with how many bytes were drawn.
+pub fn next_word(
+    nk: usize,
+    d: usize,
+    m: usize,
+    i: usize,
+    tape: &[u8],
+    x: &mut [u8],
+    y: &mut [u8],
+    t: &mut [u8],
+    keys: &mut [u8],
+) -> usize
+    requires { ⌜ Word-fits nk d m i (now keys) (now tape) (now x) (now y) (now t) ⌝ }
+    ensures { λ r. ⌜ (r ≡ temp-need d (kind nk i)) × (now (keys .exit) ≡ word-stored nk d m i (now (keys .entry)) (now (tape .entry))) ⌝ }
+{
+    fetch(d, m, i - 1, keys, t);
+    let drawn = make_temp(nk, d, i, tape, x, y, t);
+    store_all(nk, d, m, i, t, keys);
+    drawn
+}

@@ -1,0 +1,105 @@
+-- `state::linear::mix_all` meets its contract. Assumes nothing.
+use mathlib.Core.Path.{_≡_, refl}
+use Prim.Native.Nat.{suc, _≤_, _+_, _*_, _-_}
+use native.Mathlib.Omega.{arith}
+use borrow.Author.Needs.{needs}
+use lib.ListN.{length, length-take, length-drop}
+use Rattle.cipher.specs.Fips197.{mix-columns}
+use Rattle.cipher.proofs.FipsLaws.{mix-columns-length}
+use Rattle.state.proofs.PartLaws.{Done, done-none, done-more, done-map, copied-made}
+use Rattle.state.proofs.linear.mix_all.Statement.{statement}
+use Rattle.state.proofs.linear.mix_all.Tie as tie
+
+abbrev Inv-loop : tie.InvT-loop
+Inv-loop d t₀ s₀ i₀ i-end t s i = (i ≤ suc d) × (i-end ≡ suc d) × Done (λ i. mix-columns) 16 s₀ i s × (length t ≡ length t₀) × (length s ≡ length s₀)
+
+abbrev μ-loop : tie.MeasureT-loop
+μ-loop d t₀ s₀ i₀ i-end t s i = i-end - i
+
+add-i-end : tie.Need-add-i-end Inv-loop μ-loop
+add-i-end c = search needs
+
+loop-holds : tie.Need-loop-holds Inv-loop μ-loop
+loop-holds c = (omega arith, omega arith, done-none (λ i. mix-columns) 16 _, refl, refl)
+
+mul-a : tie.Need-mul-a Inv-loop μ-loop
+mul-a c = search needs
+
+add-e : tie.Need-add-e Inv-loop μ-loop
+add-e c = search needs
+
+sub-put : tie.Need-sub-put Inv-loop μ-loop
+sub-put c = search needs
+
+part-put-start : tie.Need-part-put-start Inv-loop μ-loop
+part-put-start c = search needs
+
+part-put-end : tie.Need-part-put-end Inv-loop μ-loop
+part-put-end c = search needs
+
+put-requires : tie.Need-put-requires Inv-loop μ-loop
+put-requires c κs = search needs
+
+sub-mix-columns : tie.Need-sub-mix-columns Inv-loop μ-loop
+sub-mix-columns c = search needs
+
+part-mix-columns-start : tie.Need-part-mix-columns-start Inv-loop μ-loop
+part-mix-columns-start c = search needs
+
+part-mix-columns-end : tie.Need-part-mix-columns-end Inv-loop μ-loop
+part-mix-columns-end c = search needs
+
+mix-columns-requires : tie.Need-mix-columns-requires Inv-loop μ-loop
+mix-columns-requires c κs = search needs
+
+add-i : tie.Need-add-i Inv-loop μ-loop
+add-i c = search needs
+
+loop-less : tie.Need-loop-less Inv-loop μ-loop
+loop-less c = search needs
+
+loop-again : tie.Need-loop-again Inv-loop μ-loop
+loop-again c =
+    let a = c .before .before .before .before .before .before .before .before .before .before .before .before .before .before .before .args in
+    let l = c .before .before .before .before .before .before .before .before .before .before .before .before .loop in (
+      omega arith,
+      omega arith,
+      done-more (λ i. mix-columns) 16 (suc (a .d)) (λ i u s h. mix-columns-length s) _ (l .s) _ (l .i) (l .i * 16) (l .i * 16 + 16 - l .i * 16) refl (omega arith) (omega arith) (omega arith) (l .inv .2)
+          (copied-made mix-columns _ _ _ _ (c .before .before .before .before .before .before .before .put .ensures) (simp (length-take, length-drop) (omega arith)) (c .before .before .mix-columns .ensures)),
+      search needs,
+      search needs,
+    )
+
+same-length : tie.Need-same-length Inv-loop μ-loop
+same-length c = search needs
+
+same-length-2 : tie.Need-same-length-2 Inv-loop μ-loop
+same-length-2 c = search needs
+
+returns : tie.Need-returns Inv-loop μ-loop
+returns c = done-map mix-columns 16 _ _ _ _ (omega arith) (omega arith) (c .before .loop .inv .2)
+
+pub mix-all-spec : {M : Type 1} → statement M
+mix-all-spec =
+    tie.close
+    (tie.spec
+    Inv-loop
+    μ-loop
+    add-i-end
+    loop-holds
+    mul-a
+    add-e
+    sub-put
+    part-put-start
+    part-put-end
+    put-requires
+    sub-mix-columns
+    part-mix-columns-start
+    part-mix-columns-end
+    mix-columns-requires
+    add-i
+    loop-less
+    loop-again
+    same-length
+    same-length-2
+    returns)

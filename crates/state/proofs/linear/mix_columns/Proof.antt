@@ -1,0 +1,130 @@
+-- `state::linear::mix_columns` meets its contract. Assumes nothing.
+use mathlib.Core.List.{List}
+use mathlib.Core.Path.{_≡_, refl, ap, _∙_}
+use Prim.Native.Nat.{ℕ, _≤_, _<_, _+_, _*_, _/_, _%_, _-_}
+use native.Mathlib.Omega.{arith}
+use borrow.Author.Needs.{needs}
+use denote.Ref.{now}
+use lib.ListN.{length, getD, length-set}
+use Rattle.xor.specs.Lists.{at}
+use Rattle.gf256.specs.Field.{mixed}
+use Rattle.shares.proofs.WriteLaws.{over, over-none, over-more, over-all}
+use Rattle.cipher.specs.Fips197.{cell, state, mix-columns}
+use Rattle.state.proofs.linear.mix_columns.Statement.{statement}
+use Rattle.state.proofs.linear.mix_columns.Tie as tie
+
+-- byte k of the new state
+abbrev mixed-byte : List ℕ → ℕ → ℕ
+mixed-byte t k = mixed (cell t (k % 4) (k / 4)) (cell t (k % 4 + 1) (k / 4)) (cell t (k % 4 + 2) (k / 4)) (cell t (k % 4 + 3) (k / 4))
+
+-- what the code reads for byte k
+read-first : (t : List ℕ) (k : ℕ) → k < 16 → getD t (4 * (k / 4) + k % 4) 0 ≡ cell t (k % 4) (k / 4)
+unfolding cell at
+read-first t k h = let e : 4 * (k / 4) + k % 4 ≡ k % 4 % 4 + 4 * (k / 4 % 4) = omega arith in ap (λ (i : ℕ). getD t i 0) e
+
+read-next : (t : List ℕ) (k j : ℕ) → k < 16 → getD t (4 * (k / 4) + (k % 4 + j) % 4) 0 ≡ cell t (k % 4 + j) (k / 4)
+unfolding cell at
+read-next t k j h = let e : 4 * (k / 4) + (k % 4 + j) % 4 ≡ (k % 4 + j) % 4 + 4 * (k / 4 % 4) = omega arith in ap (λ (i : ℕ). getD t i 0) e
+
+read : (t : List ℕ) (k : ℕ) → k < 16
+    → mixed (getD t (4 * (k / 4) + k % 4) 0) (getD t (4 * (k / 4) + (k % 4 + 1) % 4) 0) (getD t (4 * (k / 4) + (k % 4 + 2) % 4) 0) (getD t (4 * (k / 4) + (k % 4 + 3) % 4) 0) ≡ mixed-byte t k
+read t k h = cc (read-first t k h, read-next t k 1 h, read-next t k 2 h, read-next t k 3 h)
+
+abbrev Inv-loop : tie.InvT-loop
+Inv-loop t s₀ k₀ s k = (k ≤ 16) × (s ≡ over (mixed-byte t) k s₀) × (length s ≡ length s₀)
+
+abbrev μ-loop : tie.MeasureT-loop
+μ-loop t s₀ k₀ s k = 16 - k
+
+loop-holds : tie.Need-loop-holds Inv-loop μ-loop
+loop-holds c = (omega arith, over-none _ _, refl)
+
+mul-c : tie.Need-mul-c Inv-loop μ-loop
+mul-c c = search needs
+
+add-mix : tie.Need-add-mix Inv-loop μ-loop
+add-mix c = search needs
+
+shared-slice-read-mix : tie.Need-shared-slice-read-mix Inv-loop μ-loop
+shared-slice-read-mix c = search needs
+
+add-mix-2 : tie.Need-add-mix-2 Inv-loop μ-loop
+add-mix-2 c = search needs
+
+add-mix-3 : tie.Need-add-mix-3 Inv-loop μ-loop
+add-mix-3 c = search needs
+
+shared-slice-read-mix-2 : tie.Need-shared-slice-read-mix-2 Inv-loop μ-loop
+shared-slice-read-mix-2 c = search needs
+
+add-mix-4 : tie.Need-add-mix-4 Inv-loop μ-loop
+add-mix-4 c = search needs
+
+add-mix-5 : tie.Need-add-mix-5 Inv-loop μ-loop
+add-mix-5 c = search needs
+
+shared-slice-read-mix-3 : tie.Need-shared-slice-read-mix-3 Inv-loop μ-loop
+shared-slice-read-mix-3 c = search needs
+
+add-mix-6 : tie.Need-add-mix-6 Inv-loop μ-loop
+add-mix-6 c = search needs
+
+add-mix-7 : tie.Need-add-mix-7 Inv-loop μ-loop
+add-mix-7 c = search needs
+
+shared-slice-read-mix-4 : tie.Need-shared-slice-read-mix-4 Inv-loop μ-loop
+shared-slice-read-mix-4 c = search needs
+
+mix-requires : tie.Need-mix-requires Inv-loop μ-loop
+mix-requires c κs = search needs
+
+slice-write-s : tie.Need-slice-write-s Inv-loop μ-loop
+slice-write-s c = search needs
+
+add-k : tie.Need-add-k Inv-loop μ-loop
+add-k c = search needs
+
+loop-less : tie.Need-loop-less Inv-loop μ-loop
+loop-less c = search needs
+
+loop-again : tie.Need-loop-again Inv-loop μ-loop
+loop-again c =
+    let a = c .before .before .before .before .before .before .before .before .before .args in
+    let l = c .before .before .before .before .before .before .loop in
+    (omega arith, over-more _ (l .k) _ (l .s) (now (a .s)) (l .inv .1) (c .mix .ensures ∙ read (now (a .t)) (l .k) (omega arith)) (omega arith), simp length-set (omega arith))
+
+same-length : tie.Need-same-length Inv-loop μ-loop
+same-length c = search needs
+
+returns : tie.Need-returns Inv-loop μ-loop
+unfolding mix-columns state
+returns c =
+    let e : c .before .loop .k ≡ 16 = omega arith in
+    over-all _ 16 _ _ (rw e at (c .before .loop .inv .1)) (omega arith)
+
+pub mix-columns-spec : {M : Type 1} → statement M
+mix-columns-spec =
+    tie.close
+    (tie.spec
+    Inv-loop
+    μ-loop
+    loop-holds
+    mul-c
+    add-mix
+    shared-slice-read-mix
+    add-mix-2
+    add-mix-3
+    shared-slice-read-mix-2
+    add-mix-4
+    add-mix-5
+    shared-slice-read-mix-3
+    add-mix-6
+    add-mix-7
+    shared-slice-read-mix-4
+    mix-requires
+    slice-write-s
+    add-k
+    loop-less
+    loop-again
+    same-length
+    returns)

@@ -1,0 +1,101 @@
+// The linear steps of FIPS 197, share by share.
+ghost use mathlib.Core.Path.{_≡_};
+ghost use mathlib.Core.List.{map};
+ghost use Prim.Native.Nat.{suc, _+_, _*_, _≤_};
+ghost use lib.ListN.{length};
+ghost use Rattle.shares.specs.Strings.{parts, laid};
+ghost use Rattle.cipher.specs.Fips197 as Fips197;
+ghost use Rattle.cipher.specs.States.{adds};
+ghost use Rattle.cipher.specs.Cipher.{round-keys};
+
+// ShiftRows of a state t into s.
+fn shift_rows(t: &[u8], s: &mut [u8])
+    requires { ⌜ (length (now t) ≡ 16) × (length (now s) ≡ 16) ⌝ }
+    ensures { λ _. ⌜ now (s .exit) ≡ Fips197.shift-rows (now (t .entry)) ⌝ }
+{
+    for k in 0..16 {
+        let r = k % 4;
+        let c = k / 4 + r;
+        s[k] = t[r + 4 * (c % 4)];
+    }
+}
+
+// ShiftRows of each share; t is scratch of 16 bytes.
+pub fn shift_all(d: usize, t: &mut [u8], s: &mut [u8])
+    requires { ⌜ (d ≤ 8) × (length (now t) ≡ 16) × (length (now s) ≡ suc d * 16) ⌝ }
+    ensures { λ _. ⌜ now (s .exit) ≡ laid (map Fips197.shift-rows (parts (suc d) 16 (now (s .entry)))) ⌝ }
+{
+    for i in 0..d + 1 {
+        let a = i * 16;
+        let e = a + 16;
+        shares::bytes::put(&s[a..e], t);
+        shift_rows(t, &mut s[a..e]);
+    }
+}
+
+// MixColumns of a state t into s.
+fn mix_columns(t: &[u8], s: &mut [u8])
+    requires { ⌜ (length (now t) ≡ 16) × (length (now s) ≡ 16) ⌝ }
+    ensures { λ _. ⌜ now (s .exit) ≡ Fips197.mix-columns (now (t .entry)) ⌝ }
+{
+    for k in 0..16 {
+        let r = k % 4;
+        let c = 4 * (k / 4);
+        s[k] = gf256::mix(
+            t[c + r],
+            t[c + (r + 1) % 4],
+            t[c + (r + 2) % 4],
+            t[c + (r + 3) % 4],
+        );
+    }
+}
+
+// MixColumns of each share; t is scratch of 16 bytes.
+pub fn mix_all(d: usize, t: &mut [u8], s: &mut [u8])
+    requires { ⌜ (d ≤ 8) × (length (now t) ≡ 16) × (length (now s) ≡ suc d * 16) ⌝ }
+    ensures { λ _. ⌜ now (s .exit) ≡ laid (map Fips197.mix-columns (parts (suc d) 16 (now (s .entry)))) ⌝ }
+{
+    for i in 0..d + 1 {
+        let a = i * 16;
+        let e = a + 16;
+        shares::bytes::put(&s[a..e], t);
+        mix_columns(t, &mut s[a..e]);
+    }
+}
+
+// Round key r into each share; the keys have m bytes in each share.
+pub fn add_key(d: usize, m: usize, r: usize, keys: &[u8], s: &mut [u8])
+    requires { ⌜ (d ≤ 8) × (16 * r + 16 ≤ m) × (length (now keys) ≡ suc d * m) × (length (now s) ≡ suc d * 16) ⌝ }
+    ensures { λ _. ⌜ now (s .exit) ≡ laid (adds (parts (suc d) 16 (now (s .entry))) (round-keys (parts (suc d) m (now (keys .entry))) r)) ⌝ }
+{
+    for i in 0..d + 1 {
+        let a = i * 16;
+        let e = a + 16;
+        let b = i * m + 16 * r;
+        let f = b + 16;
+        shares::bytes::xor_into(&keys[b..f], &mut s[a..e]);
+    }
+}
+
+fn rot_word(s: &mut [u8])
+    requires { ⌜ length (now s) ≡ 4 ⌝ }
+    ensures { λ _. ⌜ now (s .exit) ≡ Fips197.rot-word (now (s .entry)) ⌝ }
+{
+    let first = s[0];
+    s[0] = s[1];
+    s[1] = s[2];
+    s[2] = s[3];
+    s[3] = first;
+}
+
+// RotWord of each share.
+pub fn rot_all(d: usize, s: &mut [u8])
+    requires { ⌜ (d ≤ 8) × (length (now s) ≡ suc d * 4) ⌝ }
+    ensures { λ _. ⌜ now (s .exit) ≡ laid (map Fips197.rot-word (parts (suc d) 4 (now (s .entry)))) ⌝ }
+{
+    for i in 0..d + 1 {
+        let a = i * 4;
+        let e = a + 4;
+        rot_word(&mut s[a..e]);
+    }
+}

@@ -1,0 +1,51 @@
+// S-boxes of bytes of a string in shares, in place, in the order that document 01 gives. x and y are scratch of one byte for each share.
+ghost use mathlib.Core.Path.{_≡_};
+ghost use Prim.Native.Nat.{suc, _*_, _<_, _≤_};
+ghost use lib.ListN.{length};
+ghost use Rattle.shares.specs.Strings.{parts, laid};
+ghost use Rattle.sbox.specs.Box.{box-need};
+ghost use Rattle.cipher.specs.Cipher.{sub-at, subs, subs-need, by-rows, in-word};
+
+// The S-box of byte k. Answers with how many bytes were drawn.
+fn sub_place(
+    d: usize,
+    l: usize,
+    k: usize,
+    tape: &[u8],
+    x: &mut [u8],
+    y: &mut [u8],
+    s: &mut [u8],
+) -> usize
+    requires { ⌜ (d ≤ 8) × (k < l) × (length (now s) ≡ suc d * l) × (length (now x) ≡ suc d) × (length (now y) ≡ suc d) × (box-need d ≤ length (now tape)) ⌝ }
+    ensures { λ r. ⌜ (r ≡ box-need d) × (now (s .exit) ≡ laid (sub-at d k (parts (suc d) l (now (s .entry))) (now (tape .entry)))) ⌝ }
+{
+    crate::bytes::gather(d, l, k, s, x);
+    let drawn = sbox::boxes::box_core(d, x, tape, y);
+    crate::bytes::scatter(d, l, k, y, s);
+    drawn
+}
+
+// The S-boxes of a state, row by row: bytes 0, 4, 8, 12, 1, 5, and so on. Answers with how many bytes were drawn.
+pub fn sub_rows(d: usize, tape: &[u8], x: &mut [u8], y: &mut [u8], s: &mut [u8]) -> usize
+    requires { ⌜ (d ≤ 8) × (length (now s) ≡ suc d * 16) × (length (now x) ≡ suc d) × (length (now y) ≡ suc d) × (subs-need d by-rows ≤ length (now tape)) ⌝ }
+    ensures { λ r. ⌜ (r ≡ subs-need d by-rows) × (now (s .exit) ≡ laid (subs d by-rows (parts (suc d) 16 (now (s .entry))) (now (tape .entry)))) ⌝ }
+{
+    let mut at: usize = 0;
+    for m in 0..16 {
+        let k = m / 4 + 4 * (m % 4);
+        at += sub_place(d, 16, k, &tape[at..], x, y, s);
+    }
+    at
+}
+
+// The S-boxes of a word, bytes 0 to 3. Answers with how many bytes were drawn.
+pub fn sub_word(d: usize, tape: &[u8], x: &mut [u8], y: &mut [u8], s: &mut [u8]) -> usize
+    requires { ⌜ (d ≤ 8) × (length (now s) ≡ suc d * 4) × (length (now x) ≡ suc d) × (length (now y) ≡ suc d) × (subs-need d in-word ≤ length (now tape)) ⌝ }
+    ensures { λ r. ⌜ (r ≡ subs-need d in-word) × (now (s .exit) ≡ laid (subs d in-word (parts (suc d) 4 (now (s .entry))) (now (tape .entry)))) ⌝ }
+{
+    let mut at: usize = 0;
+    for m in 0..4 {
+        at += sub_place(d, 4, m, &tape[at..], x, y, s);
+    }
+    at
+}
