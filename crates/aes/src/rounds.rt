@@ -6,6 +6,7 @@ ghost use Rattle.shares.specs.Strings.{parts, laid};
 ghost use Rattle.cipher.specs.Fips197.{rounds};
 ghost use Rattle.cipher.specs.Cipher.{round-need, rounds-need, masked-round, masked-last-round, masked-rounds, encrypted-with, encrypted-with-need};
 ghost use Rattle.aes.specs.Fits.{Round-fits, Rounds-fit};
+use state::Step;
 
 // A round that is not the last. Answers with how many bytes were drawn.
 fn full_round(
@@ -23,8 +24,8 @@ fn full_round(
     ensures { λ q. ⌜ (q ≡ round-need d) × (now (s .exit) ≡ laid (masked-round d r (parts (suc d) m (now (keys .entry))) (parts (suc d) 16 (now (s .entry))) (now (tape .entry)))) ⌝ }
 {
     let drawn = state::substitution::sub_rows(d, tape, x, y, s);
-    state::linear::shift_all(d, t, s);
-    state::linear::mix_all(d, t, s);
+    state::linear::step_all(Step::ShiftRows, d, t, s);
+    state::linear::step_all(Step::MixColumns, d, t, s);
     state::linear::add_key(d, m, r, keys, s);
     drawn
 }
@@ -45,7 +46,7 @@ fn last_round(
     ensures { λ q. ⌜ (q ≡ round-need d) × (now (s .exit) ≡ laid (masked-last-round d r (parts (suc d) m (now (keys .entry))) (parts (suc d) 16 (now (s .entry))) (now (tape .entry)))) ⌝ }
 {
     let drawn = state::substitution::sub_rows(d, tape, x, y, s);
-    state::linear::shift_all(d, t, s);
+    state::linear::step_all(Step::ShiftRows, d, t, s);
     state::linear::add_key(d, m, r, keys, s);
     drawn
 }

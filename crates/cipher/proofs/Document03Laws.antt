@@ -241,7 +241,7 @@ sizes P a b c nk e =
     (λ u. or-cases (eqb nk 6) (eqb nk 8) (λ t. subst P (sym (eqb→eq nk 6 t)) b) (λ t. subst P (sym (eqb→eq nk 8 t)) c) u)
     (true-T e)
 
-some-words : (nk : ℕ) → D.key-words nk ≡ true → 1 ≤ nk
+pub some-words : (nk : ℕ) → D.key-words nk ≡ true → 1 ≤ nk
 some-words = sizes (λ nk. 1 ≤ nk) (omega arith) (omega arith) (omega arith)
 
 kind-agrees : {A : Type 0} (nk i : ℕ) (a b c : A) → D.key-words nk ≡ true
@@ -352,7 +352,7 @@ key-boxes-are nk d =
     sizes (λ nk. D.key-boxes nk * D.box-tape d ≡ schedule-need nk d)
     (omega (arith, box-tape d, schedule-need-4 d)) (omega (arith, box-tape d, schedule-need-6 d)) (omega (arith, box-tape d, schedule-need-8 d)) nk
 
-encrypted-turned : (nk : ℕ) {d : ℕ} {k x : Shares} (ts : List ℕ) → D.key-words nk ≡ true → Shared (4 * nk) d k → Shared 16 d x
+pub encrypted-turned : (nk : ℕ) {d : ℕ} {k x : Shares} (ts : List ℕ) → D.key-words nk ≡ true → Shared (4 * nk) d k → Shared 16 d x
     → D.encrypted nk d (bytes (4 * nk) k) (bytes 16 x) ts ≡ bytes 16 (encrypted nk d k x ts)
 unfolding D.encrypted D.rounds encrypted encrypted-with rounds
 encrypted-turned nk {d} {k} {x} ts size hk hx =

@@ -9,3 +9,4 @@ pub mod SmallValues
 pub mod Example
 pub mod TurnedLaws
 pub mod Document03Laws
+pub mod Document03Joins

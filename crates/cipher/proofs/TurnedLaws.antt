@@ -244,7 +244,7 @@ shared-turned d l bs e =
     rw q (shared-from-is l 0 (suc d) l bs
     ∙ tab-cong _ _ l (λ i h. ap (λ (k : ℕ). D.column (suc d) l k bs) (zero-add i) ∙ column-parts (suc d) l i bs h))
 
-nth-shares-is : (i : ℕ) (xs : D.Shared) → D.nth-shares i xs ≡ map (λ x. at x i) xs
+pub nth-shares-is : (i : ℕ) (xs : D.Shared) → D.nth-shares i xs ≡ map (λ x. at x i) xs
 unfolding D.nth-shares
 nth-shares-is i [] = refl
 nth-shares-is i (x ∷ xs) = ap (_∷_ (at x i)) (nth-shares-is i xs)

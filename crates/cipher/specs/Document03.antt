@@ -1,13 +1,16 @@
 -- Document 03's S-box and cipher over shares, copied over this repository's field and `bitXor`, to be compared with `Box` and `Cipher`.
--- `Document03Laws` proves that they agree. Its product is that of isw's `Document03`. Assumes nothing: these are definitions.
--- A shared string is a list of shared bytes there, and a list of shares here.
-use mathlib.Core.Bool.{Bool, cond, _&&_, _||_}
+-- `Document03Laws` proves that they agree, `Document03Joins` what it states of them: the types at the end. Its product is that of isw's
+-- `Document03`. A shared string is a list of shared bytes there, and a list of shares here. Assumes nothing: these are definitions.
+use mathlib.Core.Path.{_≡_}
+use mathlib.Core.Bool.{Bool, true, cond, _&&_, _||_}
 use mathlib.Core.List.{List, [], _∷_, _++_}
-use Prim.Native.Nat.{ℕ, zero, suc, _+_, _*_, _-_, _/_, _%_}
+use Prim.Native.Nat.{ℕ, zero, suc, _+_, _*_, _-_, _/_, _%_, _≤_}
 use lib.Bits.{bitXor}
-use lib.Dec.{eqb}
+use lib.Dec.{ltb, eqb}
 use lib.ListN.{length, getD, take, drop}
 use Rattle.xor.specs.Lists.{at}
+use Rattle.xor.specs.Sums.{joined}
+use Rattle.gf256.specs.Document03.{size}
 use Rattle.gf256.specs.Field.{doubled, times, squared, fourth, sixteenth, affine}
 use Rattle.isw.specs.Document03.{product, product-tape}
 
@@ -155,6 +158,18 @@ cipher-tape nk d = (key-boxes nk + 16 * rounds nk) * box-tape d
 unfoldable pub key-words : ℕ → Bool
 key-words nk = eqb nk 4 || (eqb nk 6 || eqb nk 8)
 
+-- AES: order 0, with one share and no tape
+unfoldable pub alone : List ℕ → Shared
+alone [] = []
+alone (x ∷ xs) = (x ∷ []) ∷ alone xs
+
+unfoldable pub joined-all : Shared → List ℕ
+joined-all [] = []
+joined-all (x ∷ xs) = joined x ∷ joined-all xs
+
+unfoldable pub aes : (nk : ℕ) → (key input : List ℕ) → List ℕ
+aes nk k x = joined-all (encrypted nk 0 (alone k) (alone x) [])
+
 -- ---- the layout
 
 unfoldable pub column : (left : ℕ) → (l i : ℕ) → List ℕ → List ℕ
@@ -178,3 +193,47 @@ laid-from (suc k) i s = nth-shares i s ++ laid-from k (suc i) s
 
 unfoldable pub laid : (n : ℕ) → Shared → List ℕ
 laid n s = laid-from n 0 s
+
+-- splitting
+unfoldable pub split-first : (left : ℕ) → (input tape : List ℕ) → List ℕ
+split-first zero xs ts = xs
+split-first (suc k) xs ts = split-first k (xors xs (take (length xs) ts)) (drop (length xs) ts)
+
+unfoldable pub split : (d : ℕ) → (input tape : List ℕ) → List ℕ
+split d xs ts = split-first d xs ts ++ take (d * length xs) ts
+
+-- ---- what it states of them: shares join to the values of FIPS 197, whatever the tape
+
+unfoldable pub all-bytes : List ℕ → Bool
+all-bytes [] = true
+all-bytes (x ∷ xs) = ltb x size && all-bytes xs
+
+unfoldable pub all-shared : (n : ℕ) → Shared → Bool
+all-shared n [] = true
+all-shared n (x ∷ xs) = (eqb (length x) n && all-bytes x) && all-shared n xs
+
+unfoldable pub Product-joins : Type 0
+Product-joins =
+    (a b ts : List ℕ) → all-bytes a ≡ true → all-bytes b ≡ true → all-bytes ts ≡ true → length a ≡ length b → 1 ≤ length a
+    → product-tape (length a - 1) ≤ length ts → joined (product times a b ts) ≡ times (joined a) (joined b)
+
+unfoldable pub Refresh-joins : Type 0
+Refresh-joins =
+    (a ts : List ℕ) → all-bytes a ≡ true → all-bytes ts ≡ true → length a ≤ suc (length ts) → joined (refreshed a ts) ≡ joined a
+
+unfoldable pub Box-joins : Type 0
+Box-joins =
+    (a ts : List ℕ) → all-bytes a ≡ true → all-bytes ts ≡ true → 1 ≤ length a → box-tape (length a - 1) ≤ length ts
+    → joined (box a ts) ≡ joined (box (joined a ∷ []) [])
+
+unfoldable pub Cipher-joins : Type 0
+Cipher-joins =
+    (nk d : ℕ) (k x : Shared) (ts : List ℕ) → key-words nk ≡ true → d ≤ 8 → all-shared (suc d) k ≡ true → all-shared (suc d) x ≡ true
+    → length k ≡ 4 * nk → length x ≡ 16 → all-bytes ts ≡ true → cipher-tape nk d ≤ length ts
+    → joined-all (encrypted nk d k x ts) ≡ aes nk (joined-all k) (joined-all x)
+
+-- joining a split block gives the block
+unfoldable pub Split-joins : Type 0
+Split-joins =
+    (d : ℕ) (xs ts : List ℕ) → 1 ≤ length xs → all-bytes xs ≡ true → all-bytes ts ≡ true → d * length xs ≤ length ts
+    → joined-all (shared (suc d) (split d xs ts)) ≡ xs

@@ -1,2 +1,3 @@
 pub mod PartLaws
+pub mod StepLaws
 pub mod SubLaws

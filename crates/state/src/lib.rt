@@ -5,3 +5,9 @@
 pub mod bytes;
 pub mod linear;
 pub mod substitution;
+
+// The linear steps of FIPS 197 that act on a state alone.
+pub enum Step {
+    ShiftRows,
+    MixColumns,
+}

@@ -7,6 +7,8 @@ ghost use Rattle.shares.specs.Strings.{parts, laid};
 ghost use Rattle.cipher.specs.Fips197 as Fips197;
 ghost use Rattle.cipher.specs.States.{adds};
 ghost use Rattle.cipher.specs.Cipher.{round-keys};
+ghost use Rattle.state.specs.Steps.{stepped};
+use crate::Step;
 
 // ShiftRows of a state t into s.
 fn shift_rows(t: &[u8], s: &mut [u8])
@@ -17,19 +19,6 @@ fn shift_rows(t: &[u8], s: &mut [u8])
         let r = k % 4;
         let c = k / 4 + r;
         s[k] = t[r + 4 * (c % 4)];
-    }
-}
-
-// ShiftRows of each share; t is scratch of 16 bytes.
-pub fn shift_all(d: usize, t: &mut [u8], s: &mut [u8])
-    requires { ⌜ (d ≤ 8) × (length (now t) ≡ 16) × (length (now s) ≡ suc d * 16) ⌝ }
-    ensures { λ _. ⌜ now (s .exit) ≡ laid (map Fips197.shift-rows (parts (suc d) 16 (now (s .entry)))) ⌝ }
-{
-    for i in 0..d + 1 {
-        let a = i * 16;
-        let e = a + 16;
-        shares::bytes::put(&s[a..e], t);
-        shift_rows(t, &mut s[a..e]);
     }
 }
 
@@ -50,16 +39,27 @@ fn mix_columns(t: &[u8], s: &mut [u8])
     }
 }
 
-// MixColumns of each share; t is scratch of 16 bytes.
-pub fn mix_all(d: usize, t: &mut [u8], s: &mut [u8])
+// The step that is named, of a state t into s.
+fn make_step(which: Step, t: &[u8], s: &mut [u8])
+    requires { ⌜ (length (now t) ≡ 16) × (length (now s) ≡ 16) ⌝ }
+    ensures { λ _. ⌜ now (s .exit) ≡ stepped which (now (t .entry)) ⌝ }
+{
+    match which {
+        Step::ShiftRows => shift_rows(t, s),
+        Step::MixColumns => mix_columns(t, s),
+    }
+}
+
+// The step that is named, on each share; t is scratch of 16 bytes.
+pub fn step_all(which: Step, d: usize, t: &mut [u8], s: &mut [u8])
     requires { ⌜ (d ≤ 8) × (length (now t) ≡ 16) × (length (now s) ≡ suc d * 16) ⌝ }
-    ensures { λ _. ⌜ now (s .exit) ≡ laid (map Fips197.mix-columns (parts (suc d) 16 (now (s .entry)))) ⌝ }
+    ensures { λ _. ⌜ now (s .exit) ≡ laid (map (stepped which) (parts (suc d) 16 (now (s .entry)))) ⌝ }
 {
     for i in 0..d + 1 {
         let a = i * 16;
         let e = a + 16;
         shares::bytes::put(&s[a..e], t);
-        mix_columns(t, &mut s[a..e]);
+        make_step(which, t, &mut s[a..e]);
     }
 }
 

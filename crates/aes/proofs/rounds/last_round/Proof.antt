@@ -8,8 +8,8 @@ use Rattle.aes.proofs.rounds.last_round.Tie as tie
 sub-rows-requires : tie.Need-sub-rows-requires
 sub-rows-requires c κs = search needs
 
-shift-all-requires : tie.Need-shift-all-requires
-shift-all-requires c κs = search needs
+step-all-requires : tie.Need-step-all-requires
+step-all-requires c κs = search needs
 
 add-key-requires : tie.Need-add-key-requires
 add-key-requires c κs = search needs
@@ -30,14 +30,14 @@ returns : tie.Need-returns
 returns c =
     let a = c .before .before .before .before .before .before .before .before .before .before .before .before .before .before .before .before .before .before .before .before .before .before .before .before .before .before .before .args in
     let boxed = c .before .before .before .before .before .before .before .before .before .before .before .before .before .before .before .before .before .sub-rows in
-    (boxed .ensures .0, last-round-made (a .d) (a .m) (now (a .keys)) (now (a .tape)) (now (a .s)) (c .before .before .before .before .before .before .before .before .before .before .before .before .before .before .before .before .before .before .before .before .before .before .before .before .before .before .before .pre .s-long) _ _ (boxed .ensures .1) (c .before .before .before .before .before .before .before .before .shift-all .ensures) (a .r) _ (c .before .before .add-key .ensures))
+    (boxed .ensures .0, last-round-made (a .d) (a .m) (now (a .keys)) (now (a .tape)) (now (a .s)) (c .before .before .before .before .before .before .before .before .before .before .before .before .before .before .before .before .before .before .before .before .before .before .before .before .before .before .before .pre .s-long) _ _ (boxed .ensures .1) (c .before .before .before .before .before .before .before .before .step-all .ensures) (a .r) _ (c .before .before .add-key .ensures))
 
 pub last-round-spec : {M : Type 1} → statement M
 last-round-spec =
     tie.close
     (tie.spec
     sub-rows-requires
-    shift-all-requires
+    step-all-requires
     add-key-requires
     same-length
     same-length-2
