@@ -1,7 +1,10 @@
--- What a call of the C interface gives back: a status, the count behind `taken`, and the output. Assumes nothing: these are definitions.
--- Document 01's table decides the numbers.
+-- What a call of the C interface gives back: a status, the count behind `taken`, and the output; and where unused tape starts.
+-- Assumes nothing: these are definitions. Document 01's table decides the numbers.
+use mathlib.Core.Bool.{cond}
 use mathlib.Core.List.{List}
 use Prim.Native.Nat.{ℕ}
+use lib.Dec.{ltb}
+use lib.ListN.{length}
 use Rattle.shares.specs.Outcome.{Outcome, done, refused}
 
 pub record Returned : Type 0 where
@@ -16,3 +19,7 @@ gives s k q = record { status = s; taken = k; output = q }
 abbrev pub returned : Outcome → (before : ℕ) → Returned
 returned (done k q) t = gives 0 k q
 returned (refused n q) t = gives n t q
+
+-- unused tape starts at count, or at the tape's end if count exceeds its length
+unfoldable pub unused-start : (tape : List ℕ) (count : ℕ) → ℕ
+unused-start ts k = cond (ltb (length ts) k) (length ts) k

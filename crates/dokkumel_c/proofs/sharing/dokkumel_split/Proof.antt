@@ -1,0 +1,20 @@
+-- `dokkumel_c::sharing::dokkumel_split` meets its contract. Assumes nothing.
+use borrow.Author.Needs.{needs}
+use Rattle.dokkumel_c.proofs.ReturnedLaws.{handed-on}
+use Rattle.dokkumel_c.proofs.sharing.dokkumel_split.Statement.{statement}
+use Rattle.dokkumel_c.proofs.sharing.dokkumel_split.Tie as tie
+
+split-requires : tie.Need-split-requires
+split-requires c κs = search needs
+
+give-requires : tie.Need-give-requires
+give-requires c κs = search needs
+
+same-length : tie.Need-same-length
+same-length c = search needs
+
+returns : tie.Need-returns
+returns c = handed-on _ (c .before .before .before .before .split .ensures) (c .give .ensures _)
+
+pub dokkumel-split-spec : {M : Type 1} → statement M
+dokkumel-split-spec = tie.close (tie.spec split-requires give-requires same-length returns)

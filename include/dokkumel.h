@@ -1,0 +1,263 @@
+/*
+ * Dokkumel: AES on masked data.
+ *
+ * SHARES. A secret byte is never stored as it is. It is held as n = d + 1
+ * shares, numbered 0 to d, whose XOR is the byte. d is the order: any d of
+ * the bytes that a masked product computes say nothing about its factors.
+ * Orders 1 to 8 are served.
+ *
+ * LAYOUT. A string of L bytes in shares is one buffer of n * L bytes: all of
+ * share 0, then all of share 1, and so on. A single byte in shares is the
+ * case L = 1: n bytes, one for each share.
+ *
+ * TAPE. The library makes no random bytes. The caller lends a tape of fresh,
+ * uniform, secret random bytes; it is read from its start, and each byte is
+ * used once. A call may be lent more tape than it needs: the surplus has no
+ * effect. *taken then says how many bytes were used, and the next call must
+ * be lent the tape from there on. No byte of tape may serve two calls.
+ *
+ * STATUS. Every routine but dokkumel_unused_tape() answers with a status:
+ *
+ *   0   the call was carried through; output is written, and *taken is set
+ *   1   order is 0 or above 8
+ *   2   key share length isn't n * 16, n * 24 or n * 32
+ *   3   an input's length doesn't fit
+ *   4   output length isn't the one required
+ *   5   tape shorter than the call needs
+ *   6   place list longer than d
+ *   7   some listed place number isn't below P(d)
+ *
+ * If several causes apply, the lowest number is given. (dokkumel_read_places()
+ * has an order of its own, told there.) A refused call leaves the whole output
+ * and *taken as they were, and has used no tape.
+ *
+ * BUFFERS. A buffer is a pointer and a length, in bytes unless told otherwise.
+ * For every call:
+ *
+ *  - No pointer is NULL, and each lends its whole length until the call
+ *    returns. (Behind a length of 0 nothing is read or written; pass any
+ *    pointer that is not NULL.)
+ *  - No two buffers of a call overlap, and *taken lies in none of them. There
+ *    is no working in place.
+ *  - Output and *taken hold some value beforehand. Set them to 0.
+ *  - A place list is aligned as uint16_t is, taken as size_t is. Buffers of
+ *    bytes need no alignment.
+ *
+ * Lengths are tested, these four points are not: a caller that breaks one gets
+ * no promise. Nothing else is asked of a caller: any order, any length and
+ * any bytes get the answer told here.
+ *
+ * THREADS. There is no global state, no allocation and no system call. Calls
+ * may run at the same time, if no buffer that one of them writes is used by
+ * another.
+ *
+ * Local copies of shares on the stack are not wiped.
+ *
+ * Link with libdokkumel_c.a; it needs memcpy() and memset() only.
+ */
+
+#ifndef DOKKUMEL_H
+#define DOKKUMEL_H
+
+#include <stddef.h>
+#include <stdint.h>
+
+#ifdef __cplusplus
+extern "C" {
+#endif
+
+#define DOKKUMEL_OK               0
+#define DOKKUMEL_REFUSED_ORDER    1 /* order is 0 or above 8 */
+#define DOKKUMEL_REFUSED_KEY      2 /* key share length isn't n * 16, n * 24 or n * 32 */
+#define DOKKUMEL_REFUSED_INPUT    3 /* an input's length doesn't fit */
+#define DOKKUMEL_REFUSED_OUTPUT   4 /* output length isn't the one required */
+#define DOKKUMEL_REFUSED_TAPE     5 /* tape shorter than the call needs */
+#define DOKKUMEL_REFUSED_LIST     6 /* place list longer than d */
+#define DOKKUMEL_REFUSED_PLACE    7 /* some listed place number isn't below P(d) */
+
+/*
+ * Lengths and tape, exact at orders 1 to 8. With constant arguments they are
+ * constants, fit for the length of an array. Arguments are evaluated more
+ * than once.
+ */
+
+#define DOKKUMEL_MAX_ORDER        8
+
+/* n, the number of shares. */
+#define DOKKUMEL_SHARES(order)    ((order) + 1)
+
+/* Length of a string of so many bytes in shares. */
+#define DOKKUMEL_SHARED(order, bytes) \
+	(DOKKUMEL_SHARES(order) * (bytes))
+
+/* P(d), the number of places in one product. */
+#define DOKKUMEL_PLACES(order) \
+	(2 * DOKKUMEL_SHARES(order) + 5 * DOKKUMEL_PRODUCT_TAPE(order) \
+	+ DOKKUMEL_SHARES(order) * DOKKUMEL_SHARES(order))
+
+/* Tape bytes that a call takes. The product, its sheet and the reading of
+   places take the same. */
+#define DOKKUMEL_SPLIT_TAPE(order, bytes)  ((order) * (bytes))
+#define DOKKUMEL_REFRESH_TAPE(order)       (order)
+#define DOKKUMEL_PRODUCT_TAPE(order)       ((order) * ((order) + 1) / 2)
+#define DOKKUMEL_SBOX_TAPE(order)          (2 * (order) * (order) + 4 * (order))
+#define DOKKUMEL_ENCRYPT_TAPE(order, key_bytes) \
+	(DOKKUMEL_SBOXES(key_bytes) * DOKKUMEL_SBOX_TAPE(order))
+
+/* S-boxes of a whole encryption; key_bytes is 16, 24 or 32. */
+#define DOKKUMEL_SBOXES(key_bytes) \
+	((key_bytes) == 16 ? 200 : (key_bytes) == 24 ? 224 : 276)
+
+/*
+ * Split a string into shares. Shares 1 to d are tape bytes, in turn; share 0
+ * is the input XOR all of them.
+ *
+ *   input    16, 24 or 32 bytes = L
+ *   tape     takes d * L
+ *   output   n * L bytes
+ *
+ * Refusals: 1, 3, 4, 5.
+ */
+uint32_t dokkumel_split(size_t order,
+	const uint8_t *input, size_t input_len,
+	const uint8_t *tape, size_t tape_len,
+	uint8_t *output, size_t output_len,
+	size_t *taken);
+
+/*
+ * Join shares: the XOR of all of them. The output is the secret itself.
+ *
+ *   input    n * 16, n * 24 or n * 32 bytes
+ *   output   the input's length divided by n
+ *
+ * It uses no tape, and sets *taken to 0. Refusals: 1, 3, 4.
+ */
+uint32_t dokkumel_join(size_t order,
+	const uint8_t *input, size_t input_len,
+	uint8_t *output, size_t output_len,
+	size_t *taken);
+
+/*
+ * Mask refresh: new shares of the same byte.
+ *
+ *   input    n bytes
+ *   tape     takes d
+ *   output   n bytes
+ *
+ * Refusals: 1, 3, 4, 5.
+ */
+uint32_t dokkumel_refresh(size_t order,
+	const uint8_t *input, size_t input_len,
+	const uint8_t *tape, size_t tape_len,
+	uint8_t *output, size_t output_len,
+	size_t *taken);
+
+/*
+ * Masked product of two bytes, in the field of AES. The masks of left and
+ * right must be independent: to multiply a byte by itself, refresh its
+ * shares for one of the factors.
+ *
+ *   left     n bytes
+ *   right    n bytes
+ *   tape     takes d * (d + 1) / 2
+ *   output   n bytes
+ *
+ * Refusals: 1, 3, 4, 5.
+ */
+uint32_t dokkumel_product(size_t order,
+	const uint8_t *left, size_t left_len,
+	const uint8_t *right, size_t right_len,
+	const uint8_t *tape, size_t tape_len,
+	uint8_t *output, size_t output_len,
+	size_t *taken);
+
+/*
+ * The sheet of a masked product: every byte that the product computes, at its
+ * place. It is for evaluation, not for production: it holds all the shares.
+ *
+ *   left, right, tape    as the product
+ *   output               P(d) bytes, DOKKUMEL_PLACES(order)
+ *
+ * Places, numbered from 0:
+ *
+ *   1. left's shares a_0 to a_d, then right's shares b_0 to b_d.
+ *   2. For each pair i < j, i outer, both ascending: r(i,j), the byte drawn;
+ *      a_i * b_j; r(i,j) XOR a_i * b_j; a_j * b_i; r(j,i).
+ *   3. For each i ascending: a_i * b_i, then the running sum after each
+ *      r(i,j) taken in, j ascending, j not i. The last is the product's
+ *      share i.
+ *
+ * Refusals: 1, 3, 4, 5.
+ */
+uint32_t dokkumel_product_sheet(size_t order,
+	const uint8_t *left, size_t left_len,
+	const uint8_t *right, size_t right_len,
+	const uint8_t *tape, size_t tape_len,
+	uint8_t *output, size_t output_len,
+	size_t *taken);
+
+/*
+ * Read listed places of a product's sheet: output byte k is the byte at place
+ * list[k]. The list may be empty, and may name a place twice; each entry
+ * counts.
+ *
+ *   left, right, tape    as the product
+ *   list                 list_len numbers of 16 bits, at most d of them
+ *   output               list_len bytes
+ *
+ * Refusals: first the sheet's 1, 3 and 5; then 4, 6, 7.
+ */
+uint32_t dokkumel_read_places(size_t order,
+	const uint8_t *left, size_t left_len,
+	const uint8_t *right, size_t right_len,
+	const uint8_t *tape, size_t tape_len,
+	const uint16_t *list, size_t list_len,
+	uint8_t *output, size_t output_len,
+	size_t *taken);
+
+/*
+ * Masked S-box of AES, on one byte in shares.
+ *
+ *   input    n bytes
+ *   tape     takes 2 * d * d + 4 * d
+ *   output   n bytes
+ *
+ * Refusals: 1, 3, 4, 5.
+ */
+uint32_t dokkumel_sbox(size_t order,
+	const uint8_t *input, size_t input_len,
+	const uint8_t *tape, size_t tape_len,
+	uint8_t *output, size_t output_len,
+	size_t *taken);
+
+/*
+ * Masked AES encryption of one block: key, block and ciphertext in shares.
+ * The key schedule is computed anew in each call, and draws first.
+ *
+ *   key      n * 16, n * 24 or n * 32 bytes
+ *   input    n * 16 bytes
+ *   tape     takes DOKKUMEL_ENCRYPT_TAPE(order, 16), .. 24) or .. 32)
+ *   output   n * 16 bytes
+ *
+ * Refusals: 1, 2, 3, 4, 5.
+ */
+uint32_t dokkumel_encrypt(size_t order,
+	const uint8_t *key, size_t key_len,
+	const uint8_t *input, size_t input_len,
+	const uint8_t *tape, size_t tape_len,
+	uint8_t *output, size_t output_len,
+	size_t *taken);
+
+/*
+ * Where the unused tape starts, after count bytes were taken: at count, or at
+ * tape_len if count exceeds it. The unused tape is tape + answer, and has
+ * tape_len - answer bytes. It refuses nothing.
+ */
+size_t dokkumel_unused_tape(const uint8_t *tape, size_t tape_len,
+	size_t count);
+
+#ifdef __cplusplus
+}
+#endif
+
+#endif

@@ -1,0 +1,147 @@
+#include "calls.h"
+
+#include "dokkumel.h"
+#include "guarded.h"
+#include "openssl.h"
+#include "plan.h"
+#include "second.h"
+#include "table.h"
+
+#include <inttypes.h>
+#include <stdio.h>
+#include <stdlib.h>
+#include <string.h>
+
+static const char *const buffer_names[BUFFERS] = { "key", "input", "right", "tape", "list", "output", "taken" };
+
+/* The same call for the library and for the second implementation: p has the buffers. */
+#define B(b)    p[b], c->len[b]
+#define TOOK    (size_t *)(void *)p[TAKEN]
+#define PLACES  (const uint16_t *)(void *)p[LIST], c->len[LIST]
+#define MAKE(name, by)                                                                                            \
+	static uint32_t name(const struct plan *c, uint8_t *const p[BUFFERS])                                     \
+	{                                                                                                         \
+		switch (c->routine) {                                                                             \
+		case SPLIT: return by##_split(c->order, B(INPUT), B(TAPE), B(OUTPUT), TOOK);                      \
+		case JOIN: return by##_join(c->order, B(INPUT), B(OUTPUT), TOOK);                                 \
+		case REFRESH: return by##_refresh(c->order, B(INPUT), B(TAPE), B(OUTPUT), TOOK);                  \
+		case PRODUCT: return by##_product(c->order, B(INPUT), B(RIGHT), B(TAPE), B(OUTPUT), TOOK);        \
+		case SHEET: return by##_product_sheet(c->order, B(INPUT), B(RIGHT), B(TAPE), B(OUTPUT), TOOK);    \
+		case READ: return by##_read_places(c->order, B(INPUT), B(RIGHT), B(TAPE), PLACES, B(OUTPUT), TOOK); \
+		case SBOX: return by##_sbox(c->order, B(INPUT), B(TAPE), B(OUTPUT), TOOK);                        \
+		case ENCRYPT: return by##_encrypt(c->order, B(KEY), B(INPUT), B(TAPE), B(OUTPUT), TOOK);          \
+		default: *TOOK = by##_unused_tape(B(TAPE), c->count); return 0;                                   \
+		}                                                                                                 \
+	}
+MAKE(by_library, dokkumel)
+MAKE(by_second, second)
+
+static uint64_t the_seed;
+static unsigned long the_call;
+
+static void fail_at(const struct plan *c)
+{
+	printf("FAIL: %s, seed %" PRIu64 ", call %lu, order %zu", routine_names[c->routine], the_seed, the_call, c->order);
+	for (int b = 0; b < BUFFERS; b++)
+		printf(", %s_len %zu", buffer_names[b], c->len[b]);
+	printf(", count %zu: ", c->count);
+}
+
+/* Ends the program if x and y, two copies of a buffer, differ. */
+static void same(const struct plan *c, int b, const struct guarded *g, const uint8_t *x, const uint8_t *y, const char *whose)
+{
+	ptrdiff_t i = guarded_differ(g, x, y);
+
+	if (i == guarded_end(g))
+		return;
+	fail_at(c);
+	printf("%s byte %td%s is %02x, %s %02x\n", buffer_names[b], i,
+		i < 0 ? " (the guard in front)" : (size_t)i >= g->len ? " (the guard behind)" : "", x[i], whose, y[i]);
+	exit(1);
+}
+
+/* The joined ciphertext against an unrelated AES. */
+static void compare_unrelated(const struct plan *c, const struct guarded *g)
+{
+	size_t n = c->order + 1, key_len = c->len[KEY] / n;
+	uint8_t key[32] = { 0 }, block[16] = { 0 }, made[16] = { 0 }, want[16];
+
+	for (size_t k = 0; k < c->len[KEY]; k++)
+		key[k % key_len] ^= g[KEY].before[k];
+	for (size_t k = 0; k < 16 * n; k++) {
+		block[k % 16] ^= g[INPUT].before[k];
+		made[k % 16] ^= g[OUTPUT].lent[k];
+	}
+	openssl_encrypt(key, key_len, block, want);
+	for (size_t k = 0; k < 16; k++) {
+		if (made[k] != want[k]) {
+			fail_at(c);
+			printf("joined ciphertext byte %zu is %02x, OpenSSL's %02x\n", k, made[k], want[k]);
+			exit(1);
+		}
+	}
+}
+
+static void compare(const struct plan *c, struct guarded *g)
+{
+	uint8_t *lent[BUFFERS], *second[BUFFERS];
+	uint32_t status, wanted;
+
+	for (int b = 0; b < BUFFERS; b++) {
+		lent[b] = g[b].lent;
+		second[b] = g[b].second;
+	}
+	status = by_library(c, lent);
+	wanted = by_second(c, second);
+	if (status != wanted) {
+		fail_at(c);
+		printf("status is %" PRIu32 ", the second's %" PRIu32 "\n", status, wanted);
+		exit(1);
+	}
+	for (int b = 0; b < BUFFERS; b++) {
+		if (status != 0 || b < OUTPUT)
+			same(c, b, &g[b], g[b].lent, g[b].before, "before the call");
+		same(c, b, &g[b], g[b].lent, g[b].second, "the second's");
+	}
+	if (status == 0 && c->routine == ENCRYPT)
+		compare_unrelated(c, g);
+	table_count(c, status);
+}
+
+void calls_compare(uint64_t seed, unsigned long calls)
+{
+	struct noise n = { seed };
+
+	the_seed = seed;
+	for (the_call = 0; the_call < calls; the_call++) {
+		struct guarded g[BUFFERS];
+		struct plan c;
+
+		plan_make(&c, &n);
+		for (int b = 0; b < BUFFERS; b++)
+			guarded_make(&g[b], &n, b == LIST ? 2 * c.len[b] : c.len[b], b == LIST || b == TAKEN);
+		guarded_set(&g[LIST], 0, c.list, 2 * c.len[LIST]);
+		compare(&c, g);
+		for (int b = 0; b < BUFFERS; b++)
+			guarded_free(&g[b]);
+	}
+	if (!table_print())
+		exit(1);
+}
+
+void calls_try_guards(void)
+{
+	struct noise n = { 1 };
+	struct guarded g;
+
+	guarded_make(&g, &n, 10, 0);
+	for (ptrdiff_t i = -(ptrdiff_t)g.front; i < guarded_end(&g); i++) {
+		g.lent[i] ^= 1;
+		if (guarded_differ(&g, g.lent, g.before) != i) {
+			printf("FAIL: a change at byte %td of a guarded buffer is not found\n", i);
+			exit(1);
+		}
+		g.lent[i] ^= 1;
+	}
+	guarded_free(&g);
+}

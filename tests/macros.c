@@ -1,0 +1,83 @@
+/* The header's macros against the library: just so much is served, and one byte less, or one place more, is not. */
+#include "known.h"
+
+#include "dokkumel.h"
+
+#include <stdio.h>
+
+/* Document 01's tables. */
+_Static_assert(DOKKUMEL_PLACES(1) == 13 && DOKKUMEL_PLACES(2) == 30 && DOKKUMEL_PLACES(3) == 54, "P(1) to P(3)");
+_Static_assert(DOKKUMEL_PLACES(8) == 279, "P(8)");
+_Static_assert(DOKKUMEL_ENCRYPT_TAPE(1, 16) == 1200 && DOKKUMEL_ENCRYPT_TAPE(2, 16) == 3200, "16-byte keys");
+_Static_assert(DOKKUMEL_ENCRYPT_TAPE(1, 24) == 1344 && DOKKUMEL_ENCRYPT_TAPE(2, 24) == 3584, "24-byte keys");
+_Static_assert(DOKKUMEL_ENCRYPT_TAPE(1, 32) == 1656 && DOKKUMEL_ENCRYPT_TAPE(2, 32) == 4416, "32-byte keys");
+_Static_assert(DOKKUMEL_ENCRYPT_TAPE(8, 16) == 32000 && DOKKUMEL_ENCRYPT_TAPE(8, 24) == 35840, "order 8");
+_Static_assert(DOKKUMEL_ENCRYPT_TAPE(8, 32) == 44160, "order 8");
+/* An argument that is a sum. */
+_Static_assert(DOKKUMEL_ENCRYPT_TAPE(1 + 1, 8 + 8) == 3200 && DOKKUMEL_PLACES(1 + 2) == 54, "brackets");
+_Static_assert(DOKKUMEL_SHARED(1 + 1, 8 + 8) == 48 && DOKKUMEL_SPLIT_TAPE(1 + 1, 8 + 8) == 32, "brackets");
+_Static_assert(2 * DOKKUMEL_REFRESH_TAPE(1 + 1) == 4 && 2 * DOKKUMEL_PRODUCT_TAPE(1 + 1) == 6, "brackets");
+
+static const uint8_t zeros[DOKKUMEL_ENCRYPT_TAPE(8, 32)];
+static uint8_t out[DOKKUMEL_PLACES(8) + 1 + DOKKUMEL_SHARED(8, 32)];
+
+static void is(int good, const char *name, size_t d, size_t bytes)
+{
+	char what[80];
+
+	snprintf(what, sizeof what, "the macro %s at order %zu, %zu bytes", name, d, bytes);
+	known_is(good, what);
+}
+
+static void of_bytes(size_t d)
+{
+	size_t n = DOKKUMEL_SHARES(d), need, taken = 0;
+
+	need = DOKKUMEL_REFRESH_TAPE(d);
+	is(dokkumel_refresh(d, zeros, n, zeros, need, out, n, &taken) == 0 && taken == need, "DOKKUMEL_REFRESH_TAPE", d, 1);
+	is(dokkumel_refresh(d, zeros, n, zeros, need - 1, out, n, &taken) == 5, "DOKKUMEL_REFRESH_TAPE", d, 1);
+	need = DOKKUMEL_PRODUCT_TAPE(d);
+	is(dokkumel_product(d, zeros, n, zeros, n, zeros, need, out, n, &taken) == 0 && taken == need, "DOKKUMEL_PRODUCT_TAPE", d, 1);
+	is(dokkumel_product(d, zeros, n, zeros, n, zeros, need - 1, out, n, &taken) == 5, "DOKKUMEL_PRODUCT_TAPE", d, 1);
+	need = DOKKUMEL_SBOX_TAPE(d);
+	is(dokkumel_sbox(d, zeros, n, zeros, need, out, n, &taken) == 0 && taken == need, "DOKKUMEL_SBOX_TAPE", d, 1);
+	is(dokkumel_sbox(d, zeros, n, zeros, need - 1, out, n, &taken) == 5, "DOKKUMEL_SBOX_TAPE", d, 1);
+}
+
+static void of_places(size_t d)
+{
+	size_t n = DOKKUMEL_SHARES(d), places = DOKKUMEL_PLACES(d), need = DOKKUMEL_PRODUCT_TAPE(d), taken = 0;
+	uint16_t last = (uint16_t)(places - 1), past = (uint16_t)places;
+
+	is(dokkumel_product_sheet(d, zeros, n, zeros, n, zeros, need, out, places, &taken) == 0, "DOKKUMEL_PLACES", d, 1);
+	is(dokkumel_product_sheet(d, zeros, n, zeros, n, zeros, need, out, places + 1, &taken) == 4, "DOKKUMEL_PLACES", d, 1);
+	is(dokkumel_read_places(d, zeros, n, zeros, n, zeros, need, &last, 1, out, 1, &taken) == 0, "DOKKUMEL_PLACES", d, 1);
+	is(dokkumel_read_places(d, zeros, n, zeros, n, zeros, need, &past, 1, out, 1, &taken) == 7, "DOKKUMEL_PLACES", d, 1);
+}
+
+static void of_strings(size_t d, size_t l)
+{
+	size_t shared = DOKKUMEL_SHARED(d, l), block = DOKKUMEL_SHARED(d, 16), need = DOKKUMEL_SPLIT_TAPE(d, l), taken = 0;
+
+	is(dokkumel_split(d, zeros, l, zeros, need, out, shared, &taken) == 0 && taken == need, "DOKKUMEL_SPLIT_TAPE", d, l);
+	is(dokkumel_split(d, zeros, l, zeros, need - 1, out, shared, &taken) == 5, "DOKKUMEL_SPLIT_TAPE", d, l);
+	is(dokkumel_join(d, zeros, shared, out, l, &taken) == 0, "DOKKUMEL_SHARED", d, l);
+	need = DOKKUMEL_ENCRYPT_TAPE(d, l);
+	is(dokkumel_encrypt(d, zeros, shared, zeros, block, zeros, need, out, block, &taken) == 0 && taken == need,
+		"DOKKUMEL_ENCRYPT_TAPE", d, l);
+	is(dokkumel_encrypt(d, zeros, shared, zeros, block, zeros, need - 1, out, block, &taken) == 5, "DOKKUMEL_ENCRYPT_TAPE", d, l);
+}
+
+void known_macros(void)
+{
+	size_t taken = 0;
+
+	for (size_t d = 1; d <= DOKKUMEL_MAX_ORDER; d++) {
+		of_bytes(d);
+		of_places(d);
+		for (size_t l = 16; l <= 32; l += 8)
+			of_strings(d, l);
+	}
+	is(dokkumel_refresh(DOKKUMEL_MAX_ORDER + 1, zeros, 10, zeros, 9, out, 10, &taken) == DOKKUMEL_REFUSED_ORDER,
+		"DOKKUMEL_MAX_ORDER", DOKKUMEL_MAX_ORDER, 1);
+}

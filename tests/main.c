@@ -1,0 +1,48 @@
+/* main [SEED [CALLS]]: known answers through the C interface, then random calls that are compared. The seed is printed: give it to run the same calls again. */
+#include "calls.h"
+#include "known.h"
+
+#include <inttypes.h>
+#include <stdio.h>
+#include <stdlib.h>
+
+void known_is(int good, const char *what)
+{
+	if (good)
+		return;
+	printf("FAIL: %s\n", what);
+	exit(1);
+}
+
+static uint64_t fresh_seed(void)
+{
+	uint64_t seed = 0;
+	FILE *f = fopen("/dev/urandom", "rb");
+
+	if (f == NULL || fread(&seed, sizeof seed, 1, f) != 1) {
+		fputs("no random seed; give one\n", stderr);
+		exit(2);
+	}
+	fclose(f);
+	return seed;
+}
+
+int main(int argc, char **argv)
+{
+	uint64_t seed = argc > 1 ? strtoull(argv[1], NULL, 0) : fresh_seed();
+	unsigned long calls = argc > 2 ? strtoul(argv[2], NULL, 0) : 27000;
+
+	setvbuf(stdout, NULL, _IOLBF, 0);
+	known_published();
+	puts("FIPS 197's examples at orders 1, 2, 3 and 8: as printed");
+	known_small();
+	puts("document 01's small values and edges: as told");
+	known_macros();
+	puts("the header's macros: exact");
+	calls_try_guards();
+	puts("guards: every change is found");
+	printf("%lu random calls, seed %" PRIu64 "\n", calls, seed);
+	calls_compare(seed, calls);
+	puts("ok");
+	return 0;
+}

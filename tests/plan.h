@@ -1,0 +1,28 @@
+/* A random call before it is made: which routine, which order, and how long each buffer is. */
+#ifndef PLAN_H
+#define PLAN_H
+
+#include <stddef.h>
+#include <stdint.h>
+
+#include "noise.h"
+
+enum routine { SPLIT, JOIN, REFRESH, PRODUCT, SHEET, READ, SBOX, ENCRYPT, UNUSED, ROUTINES };
+
+/* INPUT is also the left factor. */
+enum buffer { KEY, INPUT, RIGHT, TAPE, LIST, OUTPUT, TAKEN, BUFFERS };
+
+#define MAX_LIST 64
+
+struct plan {
+	enum routine routine;
+	size_t order;
+	size_t count;          /* dokkumel_unused_tape's */
+	size_t len[BUFFERS];   /* in bytes; a list's in entries */
+	uint16_t list[MAX_LIST];
+};
+
+/* Half of the plans fit; the others have one to three things that may not. */
+void plan_make(struct plan *p, struct noise *n);
+
+#endif

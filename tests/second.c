@@ -1,0 +1,199 @@
+/* Each call asks document 01's questions in the table's order, and only then writes. */
+#include "second.h"
+#include "steps.h"
+
+#include <string.h>
+
+/* 16, 24 or 32 if total is so many bytes for each of n shares; else 0. */
+static size_t share_length(size_t total, size_t n)
+{
+	for (size_t l = 16; l <= 32; l += 8)
+		if (total == n * l)
+			return l;
+	return 0;
+}
+
+uint32_t second_split(size_t order, const uint8_t *input, size_t input_len, const uint8_t *tape, size_t tape_len,
+	uint8_t *output, size_t output_len, size_t *taken)
+{
+	if (order < 1 || order > MAX_ORDER)
+		return 1;
+	if (share_length(input_len, 1) == 0)
+		return 3;
+	if (output_len != input_len + order * input_len)
+		return 4;
+	if (tape_len < order * input_len)
+		return 5;
+	for (size_t k = 0; k < input_len; k++) {
+		output[k] = input[k];
+		for (size_t i = 1; i <= order; i++)
+			output[k] ^= output[i * input_len + k] = tape[(i - 1) * input_len + k];
+	}
+	*taken = order * input_len;
+	return 0;
+}
+
+uint32_t second_join(size_t order, const uint8_t *input, size_t input_len,
+	uint8_t *output, size_t output_len, size_t *taken)
+{
+	if (order < 1 || order > MAX_ORDER)
+		return 1;
+	if (share_length(input_len, order + 1) == 0)
+		return 3;
+	if (output_len != input_len / (order + 1))
+		return 4;
+	memset(output, 0, output_len);
+	for (size_t k = 0; k < input_len; k++)
+		output[k % output_len] ^= input[k];
+	*taken = 0;
+	return 0;
+}
+
+uint32_t second_refresh(size_t order, const uint8_t *input, size_t input_len, const uint8_t *tape, size_t tape_len,
+	uint8_t *output, size_t output_len, size_t *taken)
+{
+	struct tape t = { tape, 0 };
+
+	if (order < 1 || order > MAX_ORDER)
+		return 1;
+	if (input_len != order + 1)
+		return 3;
+	if (output_len != order + 1)
+		return 4;
+	if (tape_len < order)
+		return 5;
+	memcpy(output, input, input_len);
+	step_refresh(order, output, &t);
+	*taken = t.drawn;
+	return 0;
+}
+
+/* Refusals 1 and 3 of the product, its sheet and the reading of places; 5 is asked apart, as its turn differs. */
+static uint32_t unfit_factors(size_t order, size_t left_len, size_t right_len)
+{
+	if (order < 1 || order > MAX_ORDER)
+		return 1;
+	return left_len != order + 1 || right_len != order + 1 ? 3 : 0;
+}
+
+static int short_tape(size_t order, size_t tape_len)
+{
+	return tape_len < order * (order + 1) / 2;
+}
+
+static size_t places_of(size_t order)
+{
+	size_t n = order + 1;
+
+	return 2 * n + 5 * (order * n / 2) + n * n;
+}
+
+uint32_t second_product(size_t order, const uint8_t *left, size_t left_len, const uint8_t *right, size_t right_len,
+	const uint8_t *tape, size_t tape_len, uint8_t *output, size_t output_len, size_t *taken)
+{
+	struct tape t = { tape, 0 };
+	uint8_t places[MAX_PLACES];
+	uint32_t refusal = unfit_factors(order, left_len, right_len);
+
+	if (refusal != 0)
+		return refusal;
+	if (output_len != order + 1)
+		return 4;
+	if (short_tape(order, tape_len))
+		return 5;
+	step_product(order, left, right, &t, output, places);
+	*taken = t.drawn;
+	return 0;
+}
+
+uint32_t second_product_sheet(size_t order, const uint8_t *left, size_t left_len, const uint8_t *right, size_t right_len,
+	const uint8_t *tape, size_t tape_len, uint8_t *output, size_t output_len, size_t *taken)
+{
+	struct tape t = { tape, 0 };
+	uint8_t product[MAX_SHARES];
+	uint32_t refusal = unfit_factors(order, left_len, right_len);
+
+	if (refusal != 0)
+		return refusal;
+	if (output_len != places_of(order))
+		return 4;
+	if (short_tape(order, tape_len))
+		return 5;
+	step_product(order, left, right, &t, product, output);
+	*taken = t.drawn;
+	return 0;
+}
+
+uint32_t second_read_places(size_t order, const uint8_t *left, size_t left_len, const uint8_t *right, size_t right_len,
+	const uint8_t *tape, size_t tape_len, const uint16_t *list, size_t list_len,
+	uint8_t *output, size_t output_len, size_t *taken)
+{
+	struct tape t = { tape, 0 };
+	uint8_t product[MAX_SHARES], places[MAX_PLACES];
+	uint32_t refusal = unfit_factors(order, left_len, right_len);
+
+	if (refusal != 0)
+		return refusal;
+	if (short_tape(order, tape_len))
+		return 5;
+	if (output_len != list_len)
+		return 4;
+	if (list_len > order)
+		return 6;
+	for (size_t k = 0; k < list_len; k++)
+		if (list[k] >= places_of(order))
+			return 7;
+	step_product(order, left, right, &t, product, places);
+	for (size_t k = 0; k < list_len; k++)
+		output[k] = places[list[k]];
+	*taken = t.drawn;
+	return 0;
+}
+
+uint32_t second_sbox(size_t order, const uint8_t *input, size_t input_len, const uint8_t *tape, size_t tape_len,
+	uint8_t *output, size_t output_len, size_t *taken)
+{
+	struct tape t = { tape, 0 };
+
+	if (order < 1 || order > MAX_ORDER)
+		return 1;
+	if (input_len != order + 1)
+		return 3;
+	if (output_len != order + 1)
+		return 4;
+	if (tape_len < 2 * order * order + 4 * order)
+		return 5;
+	memcpy(output, input, input_len);
+	step_sbox(order, output, &t);
+	*taken = t.drawn;
+	return 0;
+}
+
+uint32_t second_encrypt(size_t order, const uint8_t *key, size_t key_len, const uint8_t *input, size_t input_len,
+	const uint8_t *tape, size_t tape_len, uint8_t *output, size_t output_len, size_t *taken)
+{
+	static const size_t sboxes[9] = { [4] = 40 + 160, [6] = 32 + 192, [8] = 52 + 224 };
+	struct tape t = { tape, 0 };
+	size_t words;
+
+	if (order < 1 || order > MAX_ORDER)
+		return 1;
+	words = share_length(key_len, order + 1) / 4;
+	if (words == 0)
+		return 2;
+	if (input_len != 16 * (order + 1))
+		return 3;
+	if (output_len != 16 * (order + 1))
+		return 4;
+	if (tape_len < sboxes[words] * (2 * order * order + 4 * order))
+		return 5;
+	step_encrypt(order, words, key, input, &t, output);
+	*taken = t.drawn;
+	return 0;
+}
+
+size_t second_unused_tape(const uint8_t *tape, size_t tape_len, size_t count)
+{
+	(void)tape;
+	return count < tape_len ? count : tape_len;
+}

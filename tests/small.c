@@ -1,0 +1,65 @@
+/* Document 01's small values and edges, through the C interface. */
+#include "known.h"
+
+#include "dokkumel.h"
+
+#include <string.h>
+
+static const uint8_t zeros[DOKKUMEL_ENCRYPT_TAPE(8, 32)];
+
+static void values(void)
+{
+	static const uint8_t a[] = { 0x02, 0x03 }, b[] = { 0x01, 0x04 }, tape[] = { 0x10 }, product[] = { 0x12, 0x17 };
+	static const uint8_t sheet[] = { 2, 3, 1, 4, 0x10, 8, 0x18, 3, 0x1b, 2, 0x12, 0x0c, 0x17 };
+	static const uint8_t shares[] = { 0x10, 0x20, 0x30 }, masks[] = { 1, 2 }, refreshed[] = { 0x13, 0x21, 0x32 };
+	uint8_t out[13] = { 0 };
+	size_t taken = 0;
+
+	known_is(dokkumel_refresh(2, shares, 3, masks, 2, out, 3, &taken) == 0 && taken == 2 && memcmp(out, refreshed, 3) == 0,
+		"refresh of 10 20 30 on the tape 01 02 is 13 21 32");
+	known_is(dokkumel_product_sheet(1, a, 2, b, 2, tape, 1, out, 13, &taken) == 0 && taken == 1 && memcmp(out, sheet, 13) == 0,
+		"the sheet of 02 03 and 01 04 on the tape 10");
+	known_is(dokkumel_product(1, a, 2, b, 2, tape, 1, out, 2, &taken) == 0 && taken == 1 && memcmp(out, product, 2) == 0,
+		"the product of 02 03 and 01 04 on the tape 10 is 12 17");
+}
+
+static void boxes(void)
+{
+	static const uint8_t one[] = { 1, 0 }, box_0[] = { 0x00, 0x63 }, box_1[] = { 0x1f, 0x63 }, box_2[] = { 0x63, 0x63, 0x63 };
+	uint8_t out[3] = { 0 };
+	size_t taken = 0;
+
+	known_is(dokkumel_sbox(1, zeros, 2, zeros, 6, out, 2, &taken) == 0 && taken == 6 && memcmp(out, box_0, 2) == 0,
+		"the S-box of 00 00 on zero tape is 00 63");
+	known_is(dokkumel_sbox(1, one, 2, zeros, 6, out, 2, &taken) == 0 && taken == 6 && memcmp(out, box_1, 2) == 0,
+		"the S-box of 01 00 on zero tape is 1f 63");
+	known_is(dokkumel_sbox(2, zeros, 3, zeros, 16, out, 3, &taken) == 0 && taken == 16 && memcmp(out, box_2, 3) == 0,
+		"the S-box of 00 00 00 on zero tape is 63 63 63");
+}
+
+static void edges(void)
+{
+	static const uint16_t places[] = { 0, 29, 7 }, past[] = { 0, 30 };
+	uint8_t out[DOKKUMEL_SHARED(8, 16)] = { 0 };
+	size_t taken = 0;
+
+	known_is(dokkumel_refresh(8, zeros, 9, zeros, 8, out, 9, &taken) == 0, "order 8 is served");
+	known_is(dokkumel_refresh(9, zeros, 10, zeros, 9, out, 10, &taken) == 1, "order 9 is refused (1)");
+	known_is(dokkumel_refresh(9, zeros, 10, zeros, 0, out, 10, &taken) == 1, "order 9 with an empty tape is refused (1)");
+	known_is(dokkumel_encrypt(1, zeros, 32, zeros, 32, zeros, 1200, out, 32, &taken) == 0 && taken == 1200,
+		"a 16-byte key at order 1 with 1200 tape bytes is served");
+	known_is(dokkumel_encrypt(1, zeros, 32, zeros, 32, zeros, 1199, out, 32, &taken) == 5,
+		"a 16-byte key at order 1 with 1199 tape bytes is refused (5)");
+	known_is(dokkumel_encrypt(1, zeros, 33, zeros, 32, zeros, 1200, out, 32, &taken) == 2, "33 key share bytes at order 1 are refused (2)");
+	known_is(dokkumel_read_places(2, zeros, 3, zeros, 3, zeros, 3, places, 2, out, 2, &taken) == 0,
+		"at order 2, two places are read, 29 among them");
+	known_is(dokkumel_read_places(2, zeros, 3, zeros, 3, zeros, 3, places, 3, out, 3, &taken) == 6, "at order 2, three places are refused (6)");
+	known_is(dokkumel_read_places(2, zeros, 3, zeros, 3, zeros, 3, past, 2, out, 2, &taken) == 7, "at order 2, place 30 is refused (7)");
+}
+
+void known_small(void)
+{
+	values();
+	boxes();
+	edges();
+}
