@@ -33,7 +33,7 @@ use Rattle.cipher.specs.States.{column, put, adds, behind}
 use Rattle.cipher.specs.Cipher.{sub-at, subs, subs-need, in-word, masked-temp, temp-need, words, masked-word, schedule-from, schedule, schedule-need, by-rows, round-keys, masked-round, masked-last-round, round-need, masked-rounds, encrypted-with, encrypted, cipher-need, encrypted-laid}
 use Rattle.cipher.specs.Document03 as D
 use Rattle.cipher.proofs.StatesLaws.{column-length, map-shared, put-shared, adds-shared}
-use Rattle.cipher.proofs.FipsLaws.{mix-columns-length, every}
+use Rattle.cipher.proofs.FipsLaws.{mix-columns-length, every, in-word-below, by-rows-below}
 use Rattle.cipher.proofs.CipherLaws.{temp-shared, words-shared, next-shared, longer-shared, rows-shared, round-shared, round-keys-shared}
 use Rattle.cipher.proofs.NeedLaws.{schedule-need-4, schedule-need-6, schedule-need-8, counted}
 use Rattle.cipher.proofs.Accuracy.{schedule-shared, encrypted-shared}
@@ -196,15 +196,11 @@ placed-state d ts = every 16 (λ xs. D.substituted d xs ts ≡ placed d by-rows 
 
 module _ {d : ℕ} where
   boxes-turned : {ws : Shares} (ts : List ℕ) → Shared 4 d ws → D.boxes d (bytes 4 ws) ts ≡ bytes 4 (subs d in-word ws ts)
-  boxes-turned {ws} ts hs = placed-word d ts (bytes 4 ws) (bytes-length 4 ws) ∙ subs-placed ts (lit< tt & lit< tt & lit< tt & lit< tt & done) hs
+  boxes-turned {ws} ts hs = placed-word d ts (bytes 4 ws) (bytes-length 4 ws) ∙ subs-placed ts in-word-below hs
 
   substituted-turned : {s : Shares} (ts : List ℕ) → Shared 16 d s → D.substituted d (bytes 16 s) ts ≡ bytes 16 (subs d by-rows s ts)
   substituted-turned {s} ts hs =
-      placed-state d ts (bytes 16 s) (bytes-length 16 s)
-      ∙ subs-placed ts
-      (lit< tt & lit< tt & lit< tt & lit< tt & lit< tt & lit< tt & lit< tt & lit< tt
-      & lit< tt & lit< tt & lit< tt & lit< tt & lit< tt & lit< tt & lit< tt & lit< tt & done)
-      hs
+      placed-state d ts (bytes 16 s) (bytes-length 16 s) ∙ subs-placed ts by-rows-below hs
 
 -- SubBytes and ShiftRows leave bytes
 rows-below : (d : ℕ) (ts : List ℕ) (xs : D.Shared) → length xs ≡ 16 → All (Below 256) (D.shifted (D.substituted d xs ts))

@@ -4,7 +4,8 @@ use mathlib.Core.List.{List, [], _∷_, map}
 use Prim.Native.Nat.{ℕ, zero, suc, _+_, _*_, _/_, _%_, _≤_, _<_}
 use native.Mathlib.Omega.{arith}
 use lib.ListN.{length, set, take, drop, length-take, length-drop}
-use Rattle.xor.specs.Lists.{at, tab, runs}
+use lib.Dec.{lit<}
+use Rattle.xor.specs.Lists.{at, tab, runs, done, _&_, Below}
 use Rattle.xor.proofs.StringLaws.{at-xors}
 use Rattle.gf256.specs.Field.{mixed}
 use Rattle.gf256.proofs.ColumnLaws.{mixed-xor}
@@ -116,6 +117,14 @@ replaced-state f = every 16 (λ s. replaced f by-rows s ≡ map f s) (λ a b c d
 pub by-rows-at : (m : ℕ) → m < 16 → m / 4 + 4 * (m % 4) ≡ at by-rows m
 unfolding at
 by-rows-at = alike (λ m. m / 4 + 4 * (m % 4)) (λ m. at by-rows m) 16 tt
+
+pub in-word-below : Below 4 in-word
+in-word-below = lit< tt & lit< tt & lit< tt & lit< tt & done
+
+pub by-rows-below : Below 16 by-rows
+by-rows-below =
+    lit< tt & lit< tt & lit< tt & lit< tt & lit< tt & lit< tt & lit< tt & lit< tt
+    & lit< tt & lit< tt & lit< tt & lit< tt & lit< tt & lit< tt & lit< tt & lit< tt & done
 
 -- RotWord only moves bytes, so SubWord may stand before it
 pub rot-sub : (w : List ℕ) → length w ≡ 4 → rot-word (sub-word w) ≡ sub-word (rot-word w)

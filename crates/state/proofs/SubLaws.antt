@@ -7,13 +7,12 @@ use native.Mathlib.Numerals.{add-one}
 use lib.ListN.{length, take, drop, drop-of-length-le}
 use lib.Seq.{drop-cons, drop-drop}
 use Rattle.xor.specs.Lists.{at}
-use Rattle.gf256.proofs.TableTest.{alike}
 use Rattle.shares.specs.Strings.{Shares, parts, laid}
 use Rattle.shares.proofs.StringsLaws.{laid-length, parts-laid, shared-parts}
 use Rattle.shares.proofs.WriteLaws.{part-rest}
 use Rattle.sbox.specs.Box.{box, box-need}
 use Rattle.cipher.specs.States.{column, put}
-use Rattle.cipher.specs.Cipher.{sub-at, subs, subs-need, in-word}
+use Rattle.cipher.specs.Cipher.{sub-at, subs, subs-need}
 use Rattle.cipher.proofs.StatesLaws.{put-shared}
 use Rattle.state.proofs.PartLaws.{laid-parts-all}
 
@@ -22,11 +21,6 @@ pub sub-made : (d l k : ℕ) (tape s s′ x y : List ℕ) → x ≡ column k (pa
     → s′ ≡ laid (sub-at d k (parts (suc d) l s) tape)
 unfolding sub-at
 sub-made d l k tape s s′ x y ex ey es = es ∙ ap (λ (v : List ℕ). laid (put (parts (suc d) l s) k v)) (ey ∙ ap (λ (v : List ℕ). box d v tape) ex)
-
--- byte m of a word
-pub in-word-at : (m : ℕ) → m < 4 → m ≡ at in-word m
-unfolding at
-in-word-at = alike (λ m. m) (λ m. at in-word m) 4 tt
 
 module _ (d l : ℕ) (ks tape s₀ : List ℕ) where
   -- after m places, with `taken` bytes drawn and the shares at s
