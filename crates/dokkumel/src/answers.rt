@@ -1,0 +1,38 @@
+// Answers of the library, as lines on standard output, with document 01's numbers and words.
+use crate::hexadecimal;
+use crate::text;
+use shares::Answer;
+use shares::Refusal;
+
+// The table's causes. The bytes c2 b7 are its dot, in UTF-8.
+pub fn print_refused(r: Refusal) {
+    match r {
+        Refusal::Order => text::print(b"refused 1: order is 0 or above 8\n"),
+        Refusal::Key => text::print(
+            b"refused 2: key share length isn't n\xc2\xb716, n\xc2\xb724 or n\xc2\xb732\n",
+        ),
+        Refusal::Input => text::print(b"refused 3: an input's length doesn't fit\n"),
+        Refusal::Output => text::print(b"refused 4: output length isn't the one required\n"),
+        Refusal::Tape => text::print(b"refused 5: tape shorter than the call needs\n"),
+        Refusal::List => text::print(b"refused 6: place list longer than d\n"),
+        Refusal::Place => text::print(b"refused 7: some listed place number isn't below P(d)\n"),
+    }
+}
+
+pub fn print_taken(n: usize) {
+    text::print_with(b"taken ", n);
+    text::print(b"\n");
+}
+
+// An answer, with the output where the call was carried through.
+pub fn print(a: Answer, output: &[u8]) {
+    match a {
+        Answer::Taken(n) => {
+            text::print(b"output ");
+            hexadecimal::print(output);
+            text::print(b"\n");
+            print_taken(n)
+        }
+        Answer::Refused(r) => print_refused(r),
+    }
+}

@@ -1,0 +1,90 @@
+// The commands, by name and by how many arguments they take.
+use crate::faults;
+use crate::text;
+
+pub enum Command {
+    Encrypt,
+    Split,
+    Join,
+    Refresh,
+    Product,
+    Sbox,
+    Read,
+    Sheet,
+    Places,
+    Tape,
+    Help,
+    Unknown,
+}
+
+// The commands behind those that `named` tries first.
+fn other_named(word: &[u8]) -> Command {
+    if text::same(word, b"read") {
+        return Command::Read;
+    }
+    if text::same(word, b"sheet") {
+        return Command::Sheet;
+    }
+    if text::same(word, b"places") {
+        return Command::Places;
+    }
+    if text::same(word, b"tape") {
+        return Command::Tape;
+    }
+    if text::same(word, b"help") {
+        return Command::Help;
+    }
+    Command::Unknown
+}
+
+pub fn named(word: &[u8]) -> Command {
+    if text::same(word, b"encrypt") {
+        return Command::Encrypt;
+    }
+    if text::same(word, b"split") {
+        return Command::Split;
+    }
+    if text::same(word, b"join") {
+        return Command::Join;
+    }
+    if text::same(word, b"refresh") {
+        return Command::Refresh;
+    }
+    if text::same(word, b"product") {
+        return Command::Product;
+    }
+    if text::same(word, b"sbox") {
+        return Command::Sbox;
+    }
+    other_named(word)
+}
+
+// How many words a command line has at least, the program's name and the command among them.
+fn length(c: Command) -> usize {
+    match c {
+        Command::Encrypt | Command::Product | Command::Sheet | Command::Read => 6,
+        Command::Split | Command::Refresh | Command::Sbox => 5,
+        Command::Join | Command::Tape => 4,
+        Command::Places => 3,
+        Command::Help | Command::Unknown => 2,
+    }
+}
+
+// Whether a line of that many words has the command's arguments; if not, a line says so.
+pub fn is_whole(c: Command, count: usize) -> bool {
+    let wanted = length(c);
+    if count < wanted {
+        faults::print(b"", b"missing argument, see dokkumel help");
+        return false;
+    }
+    if count == wanted {
+        return true;
+    }
+    match c {
+        Command::Read | Command::Unknown => true,
+        _ => {
+            faults::print(b"", b"surplus argument, see dokkumel help");
+            false
+        }
+    }
+}

@@ -1,0 +1,55 @@
+// Bytes in hexadecimal, two digits each, the high one first. Digits are read in either case and printed in lower case.
+ghost use mathlib.Core.Path.{_≡_};
+ghost use Prim.Native.Nat.{_*_};
+ghost use lib.ListN.{length};
+ghost use Rattle.dokkumel.specs.Text as Text;
+
+// The value of a digit, or 16 where the character is none.
+fn digit(c: u8) -> u8
+    ensures { λ r. ⌜ r ≡ Text.digit c ⌝ }
+{
+    match c {
+        b'0'..=b'9' => c - b'0',
+        b'a'..=b'f' => c - b'a' + 10,
+        b'A'..=b'F' => c - b'A' + 10,
+        _ => 16,
+    }
+}
+
+// Whether each character is a digit.
+pub fn are_digits(text: &[u8]) -> bool {
+    let mut good = true;
+    for k in 0..text.len() {
+        if digit(text[k]) == 16 {
+            good = false;
+        }
+    }
+    good
+}
+
+// Two digits as one byte.
+fn byte_of(high: u8, low: u8) -> u8
+    ensures { λ r. ⌜ r ≡ Text.byte high low ⌝ }
+{
+    (digit(high) % 16) * 16 + digit(low) % 16
+}
+
+// The bytes of text, which has two digits for each.
+pub fn fill(text: &[u8], out: &mut [u8])
+    requires { ⌜ length (now text) ≡ length (now out) * 2 ⌝ }
+    ensures { λ _. ⌜ now (out .exit) ≡ Text.bytes (now (text .entry)) (length (now (out .entry))) ⌝ }
+{
+    for k in 0..out.len() {
+        out[k] = byte_of(text[k * 2], text[k * 2 + 1]);
+    }
+}
+
+pub fn print(bytes: &[u8]) {
+    for k in 0..bytes.len() {
+        print_byte(bytes[k]);
+    }
+}
+
+pub fn print_byte(b: u8) {
+    io::print_hex(1, b as u64, 2);
+}

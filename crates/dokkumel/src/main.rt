@@ -1,0 +1,46 @@
+// The command line of the library, for the support desk and the laboratory: each routine on shares in hexadecimal, the sheet of a product with
+// the names of its places, and the steps that the bytes of a tape go into. `dokkumel help` lists the commands.
+//
+// A refused call prints `refused N: CAUSE` on standard output. A command line that cannot be read gets one line on standard error. The exit
+// status is 0 in every case, since a program in Rattle has no other.
+mod answers;
+mod arguments;
+mod calls;
+mod commands;
+mod decimal;
+mod faults;
+mod help;
+mod hexadecimal;
+mod layout;
+mod places;
+mod reading;
+mod routines;
+mod sheets;
+mod text;
+
+use crate::commands::Command;
+
+fn run(c: Command) {
+    match c {
+        Command::Places => places::run(),
+        Command::Tape => layout::run(),
+        Command::Help => help::print(),
+        Command::Unknown => faults::print(b"", b"unknown command, see dokkumel help"),
+        _ => calls::run(c),
+    }
+}
+
+// A first argument that the buffer does not hold is read as empty, and names no command.
+fn main() {
+    let mut word = io::buffer();
+    let count = os::arg_count();
+    if count < 2 {
+        help::print();
+        return;
+    }
+    let n = os::arg(1, &mut word);
+    let c = commands::named(&word[..n]);
+    if commands::is_whole(c, count) {
+        run(c);
+    }
+}
