@@ -1,8 +1,7 @@
 // Answers of the library, as lines on standard output, with document 01's numbers and words.
-use crate::hexadecimal;
-use crate::text;
 use shares::Answer;
 use shares::Refusal;
+use text::hexadecimal;
 
 // The table's causes. The bytes c2 b7 are its dot, in UTF-8.
 pub fn print_refused(r: Refusal) {

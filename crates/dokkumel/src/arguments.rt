@@ -5,7 +5,7 @@ ghost use lib.ListN.{length};
 use crate::decimal;
 use crate::decimal::Number;
 use crate::faults;
-use crate::hexadecimal;
+use text::hexadecimal;
 
 // How many bytes stand at the front of a buffer, where they could be read.
 pub struct Got {

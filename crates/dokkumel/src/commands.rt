@@ -1,6 +1,5 @@
 // The commands, by name and by how many arguments they take.
 use crate::faults;
-use crate::text;
 
 pub enum Command {
     Encrypt,

@@ -4,7 +4,6 @@ ghost use Prim.Native.Nat.{_≤_};
 ghost use Rattle.aes.specs.Fits.{Key-size};
 use crate::answers;
 use crate::arguments;
-use crate::text;
 use shares::Refusal;
 
 // Where the walk stands: the number of the next S-box, and its first byte on the tape.

@@ -10,13 +10,11 @@ mod commands;
 mod decimal;
 mod faults;
 mod help;
-mod hexadecimal;
 mod layout;
 mod places;
 mod reading;
 mod routines;
 mod sheets;
-mod text;
 
 use crate::commands::Command;
 

@@ -3,9 +3,8 @@
 ghost use Prim.Native.Nat.{_≤_};
 use crate::answers;
 use crate::arguments;
-use crate::hexadecimal;
-use crate::text;
 use shares::Refusal;
+use text::hexadecimal;
 
 // The end of a place's line: the byte that the sheet has there, if any. Answers with the next number.
 fn end(k: usize, sheet: &[u8]) -> usize {

@@ -5,22 +5,6 @@ ghost use mathlib.Core.List.{List};
 ghost use Rattle.shares.specs.Outcome as Outcome;
 ghost use Rattle.dokkumel_c.specs.Returned.{gives, returned};
 use shares::Answer;
-use shares::Refusal;
-
-// Document 01's number of a refusal.
-fn number(r: Refusal) -> u32
-    ensures { λ n. ⌜ n ≡ Outcome.number r ⌝ }
-{
-    match r {
-        Refusal::Order => 1,
-        Refusal::Key => 2,
-        Refusal::Input => 3,
-        Refusal::Output => 4,
-        Refusal::Tape => 5,
-        Refusal::List => 6,
-        Refusal::Place => 7,
-    }
-}
 
 // 0 and the count where the call was carried through; else the refusal's number, and taken stays.
 pub fn give(answer: Answer, taken: &mut usize) -> u32
@@ -31,6 +15,6 @@ pub fn give(answer: Answer, taken: &mut usize) -> u32
             *taken = k;
             0
         }
-        Answer::Refused(r) => number(r),
+        Answer::Refused(r) => shares::answers::number(r),
     }
 }

@@ -50,3 +50,18 @@ pub fn share_length(n: usize, length: usize) -> usize
     }
     0
 }
+
+// Document 01's number of a refusal.
+pub fn number(r: Refusal) -> u32
+    ensures { λ n. ⌜ n ≡ Outcome.number r ⌝ }
+{
+    match r {
+        Refusal::Order => 1,
+        Refusal::Key => 2,
+        Refusal::Input => 3,
+        Refusal::Output => 4,
+        Refusal::Tape => 5,
+        Refusal::List => 6,
+        Refusal::Place => 7,
+    }
+}

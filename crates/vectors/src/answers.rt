@@ -1,25 +1,10 @@
 // Answers by document 01's numbers: printed, and compared with the one that is wanted.
-use crate::text;
 use shares::Answer;
-use shares::Refusal;
-
-// The number of a refusal.
-fn number(r: Refusal) -> usize {
-    match r {
-        Refusal::Order => 1,
-        Refusal::Key => 2,
-        Refusal::Input => 3,
-        Refusal::Output => 4,
-        Refusal::Tape => 5,
-        Refusal::List => 6,
-        Refusal::Place => 7,
-    }
-}
 
 pub fn print(a: Answer) {
     match a {
         Answer::Taken(n) => text::print_with(b"taken ", n),
-        Answer::Refused(r) => text::print_with(b"refused ", number(r)),
+        Answer::Refused(r) => text::print_with(b"refused ", shares::answers::number(r) as usize),
     }
 }
 
@@ -39,7 +24,7 @@ fn took(a: Answer, n: usize) -> bool {
 fn refused(a: Answer, n: usize) -> bool {
     match a {
         Answer::Taken(_) => false,
-        Answer::Refused(r) => number(r) == n,
+        Answer::Refused(r) => shares::answers::number(r) as usize == n,
     }
 }
 

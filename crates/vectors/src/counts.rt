@@ -1,5 +1,4 @@
 // Counting comparisons.
-use crate::text;
 
 // How many values were compared, and how many of them differed.
 pub struct Tally {
@@ -42,15 +41,15 @@ pub fn both(a: Tally, b: Tally) -> Tally {
 
 // How many were compared, and how many of them were equal.
 pub fn print_equal(t: Tally) {
-    text::print_number(t.compared);
+    text::print_count(t.compared);
     text::print(b" compared, ");
-    text::print_number(std::num::wrapping_sub_u64(t.compared, t.different));
+    text::print_count(std::num::wrapping_sub_u64(t.compared, t.different));
     text::print(b" equal");
 }
 
 pub fn print(t: Tally) {
-    text::print_number(t.compared);
+    text::print_count(t.compared);
     text::print(b" comparisons, ");
-    text::print_number(t.different);
+    text::print_count(t.different);
     text::print(b" different\n");
 }

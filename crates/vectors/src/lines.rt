@@ -1,7 +1,7 @@
 // Lines `KEY BLOCK CIPHERTEXT` in hexadecimal, the form of the published examples and of standard input.
 ghost use Prim.Native.Nat.{_≤_};
 ghost use lib.ListN.{length};
-use crate::hexadecimal;
+use crate::rows;
 
 // The rest of a line behind the key: a block and a ciphertext, each behind a space. Answers whether it has that form.
 fn read_rest(rest: &[u8], block: &mut [u8], cipher: &mut [u8]) -> bool {
@@ -14,10 +14,10 @@ fn read_rest(rest: &[u8], block: &mut [u8], cipher: &mut [u8]) -> bool {
     if rest[33] != b' ' {
         return false;
     }
-    if !hexadecimal::read(&rest[1..33], block) {
+    if !rows::read(&rest[1..33], block) {
         return false;
     }
-    hexadecimal::read(&rest[34..66], cipher)
+    rows::read(&rest[34..66], cipher)
 }
 
 // A whole line whose key is as long as the lent one. Answers whether it has that form.
@@ -29,7 +29,7 @@ pub fn read(line: &[u8], key: &mut [u8], block: &mut [u8], cipher: &mut [u8]) ->
     if line.len() < digits {
         return false;
     }
-    if !hexadecimal::read(&line[0..digits], key) {
+    if !rows::read(&line[0..digits], key) {
         return false;
     }
     read_rest(&line[digits..], block, cipher)

@@ -2,13 +2,12 @@
 // of FIPS 197, and on standard input the lines that an unrelated AES made (make-stdin). Prints what was computed, line by line.
 mod answers;
 mod counts;
-mod hexadecimal;
 mod lines;
 mod outside;
 mod published;
+mod rows;
 mod runs;
 mod tapes;
-mod text;
 mod values;
 
 use crate::counts::Tally;

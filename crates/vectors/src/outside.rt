@@ -1,12 +1,12 @@
 // Lines that an unrelated AES made, from standard input: all are compared, and one line of output for each key length sums them up.
 use crate::counts;
 use crate::counts::Tally;
-use crate::hexadecimal;
 use crate::lines;
+use crate::rows;
 use crate::runs;
 use crate::runs::Run;
 use crate::tapes;
-use crate::text;
+use text::hexadecimal;
 
 // A line at that order on that tape. The ciphertext goes into sum; a line that cannot be read is left to show_unread.
 fn compare_at(
@@ -22,7 +22,7 @@ fn compare_at(
     match runs::line(line, size, order, tape, &mut cipher) {
         Run::Unread => t,
         Run::Done(_, equal) => {
-            hexadecimal::xor_into(&cipher, sum);
+            rows::xor_into(&cipher, sum);
             counts::counted(t, equal)
         }
     }
@@ -99,7 +99,7 @@ pub fn compare(input: &[u8], tape: &mut [u8], start: Tally) -> Tally {
     let long = compare_size(input, 32, tape, middle);
     let unread = count_unread(input);
     text::print(b"OpenSSL, unread lines: ");
-    text::print_number(unread);
+    text::print_count(unread);
     text::print(b"\n");
     long
 }

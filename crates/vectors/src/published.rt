@@ -2,11 +2,10 @@
 use crate::answers;
 use crate::counts;
 use crate::counts::Tally;
-use crate::hexadecimal;
 use crate::runs;
 use crate::runs::Run;
 use crate::tapes;
-use crate::text;
+use text::hexadecimal;
 
 // What came of a run, as the rest of a line.
 fn show(run: Run, cipher: &[u8], t: Tally) -> Tally {

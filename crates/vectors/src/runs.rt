@@ -1,6 +1,5 @@
 // One encryption of a plain key and block: both are split, the shares encrypted, and the result joined.
 ghost use Prim.Native.Nat.{_≤_};
-use crate::hexadecimal;
 use crate::lines;
 use shares::Answer;
 use shares::Refusal;
@@ -100,7 +99,7 @@ fn line_with(
         return Run::Unread;
     }
     let answer = encrypt(order, key, block, tape, cipher);
-    Run::Done(answer, hexadecimal::same(cipher, known))
+    Run::Done(answer, text::same(cipher, known))
 }
 
 // The same of a line whose key has size bytes.

@@ -6,9 +6,8 @@ use crate::answers;
 use crate::answers::Wanted;
 use crate::counts;
 use crate::counts::Tally;
-use crate::hexadecimal;
-use crate::text;
 use shares::Answer;
+use text::hexadecimal;
 
 // The numbers of a call, as the start of a line.
 fn print_call(order: usize, key: usize, block: usize, tape: usize) {
@@ -81,7 +80,7 @@ fn shown(output: &[u8], known: &[u8], a: Answer, w: Wanted, t: Tally) -> Tally {
     hexadecimal::print(output);
     text::print(b", ");
     answers::print(a);
-    let equal = hexadecimal::same(output, known);
+    let equal = text::same(output, known);
     counts::judged(t, equal && answers::is_wanted(a, w))
 }
 

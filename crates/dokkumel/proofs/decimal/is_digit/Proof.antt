@@ -1,19 +1,19 @@
 -- `dokkumel::decimal::is_digit` meets its contract. Assumes nothing.
 use borrow.Author.Tests.{lt-ltb, le-ltb}
-use Rattle.dokkumel.specs.Text as Text
+use Rattle.dokkumel.specs.Decimal as Decimal
 use Rattle.dokkumel.proofs.decimal.is_digit.Statement.{statement}
 use Rattle.dokkumel.proofs.decimal.is_digit.Tie as tie
 
 returns : tie.Need-returns
-unfolding Text.is-decimal
+unfolding Decimal.is-decimal
 returns c = simp (le-ltb _ _ (c .before .if1 .left), lt-ltb _ _ (c .if2 .taken))
 
 returns-2 : tie.Need-returns-2
-unfolding Text.is-decimal
+unfolding Decimal.is-decimal
 returns-2 c = simp (lt-ltb _ _ (c .if1 .taken))
 
 returns-3 : tie.Need-returns-3
-unfolding Text.is-decimal
+unfolding Decimal.is-decimal
 returns-3 c = simp (le-ltb _ _ (c .before .if1 .left), le-ltb _ _ (c .if2 .left))
 
 pub is-digit-spec : {M : Type 1} → statement M

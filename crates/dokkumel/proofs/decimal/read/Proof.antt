@@ -10,7 +10,7 @@ use denote.Ref.{now}
 use lib.Dec.{ltb}
 use lib.ListN.{length, drop, getD, drop-of-length-le}
 use lib.Seq.{drop-cons}
-use Rattle.dokkumel.specs.Text.{is-decimal, appended, number-from, decimal-from}
+use Rattle.dokkumel.specs.Decimal.{is-decimal, appended, number-from, decimal-from}
 use Rattle.dokkumel.proofs.decimal.read.Statement.{statement}
 use Rattle.dokkumel.proofs.decimal.read.Tie as tie
 

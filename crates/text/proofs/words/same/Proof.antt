@@ -1,10 +1,10 @@
--- `dokkumel::text::same` meets its contract. Assumes nothing.
+-- `text::words::same` meets its contract. Assumes nothing.
 use mathlib.Core.Path.{_≡_, refl}
 use Prim.Native.Nat.{_≤_, _-_}
 use borrow.Author.Needs.{needs}
 use lib.ListN.{length}
-use Rattle.dokkumel.proofs.text.same.Statement.{statement}
-use Rattle.dokkumel.proofs.text.same.Tie as tie
+use Rattle.text.proofs.words.same.Statement.{statement}
+use Rattle.text.proofs.words.same.Tie as tie
 
 abbrev Inv-loop : tie.InvT-loop
 Inv-loop a b equal₀ k₀ k-end equal k = (k ≤ k-end) × (k-end ≡ length a)

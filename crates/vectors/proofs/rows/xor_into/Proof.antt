@@ -1,11 +1,11 @@
--- `vectors::hexadecimal::xor_into` meets its contract. Assumes nothing.
+-- `vectors::rows::xor_into` meets its contract. Assumes nothing.
 use mathlib.Core.Path.{_≡_, refl}
 use Prim.Native.Nat.{_≤_, _-_}
 use native.Mathlib.Omega.{arith}
 use borrow.Author.Needs.{needs}
 use lib.ListN.{length, length-set}
-use Rattle.vectors.proofs.hexadecimal.xor_into.Statement.{statement}
-use Rattle.vectors.proofs.hexadecimal.xor_into.Tie as tie
+use Rattle.vectors.proofs.rows.xor_into.Statement.{statement}
+use Rattle.vectors.proofs.rows.xor_into.Tie as tie
 
 abbrev Inv-loop : tie.InvT-loop
 Inv-loop y x₀ k₀ k-end x k = (k ≤ k-end) × (k-end ≡ length x₀) × (length x ≡ length x₀)

@@ -1,4 +1,4 @@
--- `dokkumel::hexadecimal::fill` meets its contract. Assumes nothing.
+-- `text::hexadecimal::fill` meets its contract. Assumes nothing.
 use mathlib.Core.Path.{_≡_, refl, sym, ap, _∙_}
 use Prim.Native.Nat.{ℕ, _+_, _*_, _≤_, _-_}
 use native.Mathlib.Omega.{arith}
@@ -7,9 +7,9 @@ use lib.ListN.{length, length-set}
 use mathlib.Core.List.{List}
 use Rattle.xor.specs.Lists.{at, tab}
 use Rattle.shares.proofs.WriteLaws.{over, over-none, over-more, over-all}
-use Rattle.dokkumel.specs.Text.{byte, bytes}
-use Rattle.dokkumel.proofs.hexadecimal.fill.Statement.{statement}
-use Rattle.dokkumel.proofs.hexadecimal.fill.Tie as tie
+use Rattle.text.specs.Hexadecimal.{byte, bytes}
+use Rattle.text.proofs.hexadecimal.fill.Statement.{statement}
+use Rattle.text.proofs.hexadecimal.fill.Tie as tie
 
 -- all bytes are written
 written : (t o y : List ℕ) (k : ℕ) → y ≡ over (λ m. byte (at t (m * 2)) (at t (m * 2 + 1))) k o → k ≡ length o → y ≡ bytes t (length o)

@@ -1,10 +1,10 @@
--- `dokkumel::hexadecimal::print` meets its contract. Assumes nothing.
+-- `text::hexadecimal::print` meets its contract. Assumes nothing.
 use mathlib.Core.Path.{_≡_, refl}
 use Prim.Native.Nat.{_≤_, _-_}
 use borrow.Author.Needs.{needs}
 use lib.ListN.{length}
-use Rattle.dokkumel.proofs.hexadecimal.print.Statement.{statement}
-use Rattle.dokkumel.proofs.hexadecimal.print.Tie as tie
+use Rattle.text.proofs.hexadecimal.print.Statement.{statement}
+use Rattle.text.proofs.hexadecimal.print.Tie as tie
 
 abbrev Inv-loop : tie.InvT-loop
 Inv-loop bytes k₀ k-end k = (k ≤ k-end) × (k-end ≡ length bytes)

@@ -1,11 +1,15 @@
-// Text and numbers on standard output. What a write answers is dropped: there is nobody else to tell.
+// Text and numbers on standard output, and texts compared. What a write answers is dropped: there is nobody else to tell.
 
 pub fn print(words: &[u8]) {
     io::write_all(1, words);
 }
 
+pub fn print_count(n: u64) {
+    io::print_decimal(1, n);
+}
+
 pub fn print_number(n: usize) {
-    io::print_decimal(1, n as u64);
+    print_count(n as u64);
 }
 
 // Words, and a number behind them.

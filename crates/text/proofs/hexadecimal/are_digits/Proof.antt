@@ -1,10 +1,10 @@
--- `dokkumel::hexadecimal::are_digits` meets its contract. Assumes nothing.
+-- `text::hexadecimal::are_digits` meets its contract. Assumes nothing.
 use mathlib.Core.Path.{_≡_, refl}
 use Prim.Native.Nat.{_≤_, _-_}
 use borrow.Author.Needs.{needs}
 use lib.ListN.{length}
-use Rattle.dokkumel.proofs.hexadecimal.are_digits.Statement.{statement}
-use Rattle.dokkumel.proofs.hexadecimal.are_digits.Tie as tie
+use Rattle.text.proofs.hexadecimal.are_digits.Statement.{statement}
+use Rattle.text.proofs.hexadecimal.are_digits.Tie as tie
 
 abbrev Inv-loop : tie.InvT-loop
 Inv-loop text good₀ k₀ k-end good k = (k ≤ k-end) × (k-end ≡ length text)

@@ -1,9 +1,9 @@
--- `dokkumel::hexadecimal::byte_of` meets its contract. Assumes nothing.
+-- `text::hexadecimal::byte_of` meets its contract. Assumes nothing.
 use mathlib.Core.Path.{refl}
 use borrow.Author.Needs.{needs}
-use Rattle.dokkumel.specs.Text as Text
-use Rattle.dokkumel.proofs.hexadecimal.byte_of.Statement.{statement}
-use Rattle.dokkumel.proofs.hexadecimal.byte_of.Tie as tie
+use Rattle.text.specs.Hexadecimal as Hexadecimal
+use Rattle.text.proofs.hexadecimal.byte_of.Statement.{statement}
+use Rattle.text.proofs.hexadecimal.byte_of.Tie as tie
 
 digit-requires : tie.Need-digit-requires
 digit-requires c κs = search needs
@@ -18,7 +18,7 @@ add-result : tie.Need-add-result
 add-result c = search needs
 
 returns : tie.Need-returns
-unfolding Text.byte
+unfolding Hexadecimal.byte
 returns c = rw (c .before .digit .ensures, c .digit2 .ensures) refl
 
 pub byte-of-spec : {M : Type 1} → statement M

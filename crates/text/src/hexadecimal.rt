@@ -2,11 +2,11 @@
 ghost use mathlib.Core.Path.{_≡_};
 ghost use Prim.Native.Nat.{_*_};
 ghost use lib.ListN.{length};
-ghost use Rattle.dokkumel.specs.Text as Text;
+ghost use Rattle.text.specs.Hexadecimal as Hexadecimal;
 
 // The value of a digit, or 16 where the character is none.
 fn digit(c: u8) -> u8
-    ensures { λ r. ⌜ r ≡ Text.digit c ⌝ }
+    ensures { λ r. ⌜ r ≡ Hexadecimal.digit c ⌝ }
 {
     match c {
         b'0'..=b'9' => c - b'0',
@@ -29,7 +29,7 @@ pub fn are_digits(text: &[u8]) -> bool {
 
 // Two digits as one byte.
 fn byte_of(high: u8, low: u8) -> u8
-    ensures { λ r. ⌜ r ≡ Text.byte high low ⌝ }
+    ensures { λ r. ⌜ r ≡ Hexadecimal.byte high low ⌝ }
 {
     (digit(high) % 16) * 16 + digit(low) % 16
 }
@@ -37,7 +37,7 @@ fn byte_of(high: u8, low: u8) -> u8
 // The bytes of text, which has two digits for each.
 pub fn fill(text: &[u8], out: &mut [u8])
     requires { ⌜ length (now text) ≡ length (now out) * 2 ⌝ }
-    ensures { λ _. ⌜ now (out .exit) ≡ Text.bytes (now (text .entry)) (length (now (out .entry))) ⌝ }
+    ensures { λ _. ⌜ now (out .exit) ≡ Hexadecimal.bytes (now (text .entry)) (length (now (out .entry))) ⌝ }
 {
     for k in 0..out.len() {
         out[k] = byte_of(text[k * 2], text[k * 2 + 1]);

@@ -1,0 +1,9 @@
+// Text for the programs: words, numbers and bytes in hexadecimal, read and printed. No document decides it.
+pub mod hexadecimal;
+pub mod words;
+
+pub use words::print;
+pub use words::print_count;
+pub use words::print_number;
+pub use words::print_with;
+pub use words::same;
