@@ -6,6 +6,7 @@ use Prim.Native.Nat.{ℕ, suc, _+_, _*_, _-_, _≤_}
 use lib.ListN.{length}
 use Rattle.cipher.specs.Cipher.{round-need, rounds-need}
 
+-- what one round asks: the order, and the lengths of keys, tape, scratch and state
 pub record Round-fits (d m r : ℕ) (keys tape x y t s : List ℕ) : Type 0 where
   pub order : d ≤ 8
   pub round : 16 * r + 16 ≤ m
@@ -16,6 +17,7 @@ pub record Round-fits (d m r : ℕ) (keys tape x y t s : List ℕ) : Type 0 wher
   pub t-long : length t ≡ 16
   pub s-long : length s ≡ suc d * 16
 
+-- the same for rounds 1 to nr
 pub record Rounds-fit (d m nr : ℕ) (keys tape x y t s : List ℕ) : Type 0 where
   pub order : d ≤ 8
   pub round : 16 * nr + 16 ≤ m

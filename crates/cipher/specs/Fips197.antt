@@ -37,6 +37,7 @@ add-round-key s k = xors s k
 
 -- ---- key expansion (5.2): words are numbered from 0
 
+-- word i of a key schedule
 unfoldable pub word : List ℕ → (i : ℕ) → List ℕ
 word ks i = take 4 (drop (4 * i) ks)
 
@@ -57,14 +58,17 @@ rcon j = power 2 (j - 1) ∷ 0 ∷ 0 ∷ 0 ∷ []
 pub data Kind : Type 0 where
   turned subbed plain : Kind
 
+-- which of them word i is
 unfoldable pub kind : (nk i : ℕ) → Kind
 kind nk i = cond (eqb (i % nk) 0) turned (cond (ltb 6 nk && eqb (i % nk) 4) subbed plain)
 
+-- the temporary word, as its kind wants it
 unfoldable pub temp : Kind → (j : ℕ) → List ℕ → List ℕ
 temp turned j w = xors (sub-word (rot-word w)) (rcon j)
 temp subbed j w = sub-word w
 temp plain j w = w
 
+-- word i of the key schedule
 unfoldable pub next-word : (nk i : ℕ) → List ℕ → List ℕ
 next-word nk i ks = xors (word ks (i - nk)) (temp (kind nk i) (i / nk) (word ks (i - 1)))
 
@@ -87,6 +91,7 @@ key-expansion nk k = expanded-from (total-words nk - nk) nk nk k
 
 -- ---- the cipher (5.1)
 
+-- round key r, four words
 unfoldable pub round-key : (keys : List ℕ) → (r : ℕ) → List ℕ
 round-key ks r = take 16 (drop (16 * r) ks)
 
@@ -94,6 +99,7 @@ round-key ks r = take 16 (drop (16 * r) ks)
 unfoldable pub full-round : (r : ℕ) → (keys s : List ℕ) → List ℕ
 full-round r ks s = add-round-key (mix-columns (shift-rows (sub-bytes s))) (round-key ks r)
 
+-- the last round, without MixColumns
 unfoldable pub last-round : (r : ℕ) → (keys s : List ℕ) → List ℕ
 last-round r ks s = add-round-key (shift-rows (sub-bytes s)) (round-key ks r)
 

@@ -4,6 +4,7 @@ use mathlib.Core.List.{List, [], _∷_}
 use Prim.Native.Nat.{ℕ, _+_, _*_, _-_}
 use lib.Dec.{ltb}
 
+-- whether a character is a decimal digit
 unfoldable pub is-decimal : (c : ℕ) → Bool
 is-decimal c = cond (ltb c 48) false (ltb c 58)
 

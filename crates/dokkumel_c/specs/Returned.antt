@@ -7,11 +7,13 @@ use lib.Dec.{ltb}
 use lib.ListN.{length}
 use Rattle.shares.specs.Outcome.{Outcome, done, refused}
 
+-- what C can see of a call
 pub record Returned : Type 0 where
   pub status : ℕ
   pub taken : ℕ
   pub output : List ℕ
 
+-- the same from its parts
 abbrev pub gives : (status taken : ℕ) (output : List ℕ) → Returned
 gives s k q = record { status = s; taken = k; output = q }
 

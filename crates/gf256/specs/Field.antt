@@ -25,12 +25,15 @@ times a b = times-from 8 (a % 256) b
 
 -- ---- powers
 
+-- the square
 unfoldable pub squared : ℕ → ℕ
 squared a = times a a
 
+-- the fourth power
 unfoldable pub fourth : ℕ → ℕ
 fourth a = squared (squared a)
 
+-- the sixteenth power
 unfoldable pub sixteenth : ℕ → ℕ
 sixteenth a = fourth (fourth a)
 
@@ -64,6 +67,7 @@ rows-from (m ∷ ms) i a = bitXor (if-set (parity (bitAnd a m)) (2 ^ i)) (rows-f
 unfoldable pub linear-by : (rows : List ℕ) → ℕ → ℕ
 linear-by ms a = rows-from ms 0 a
 
+-- an affine map over bits, by its rows and its constant
 unfoldable pub affine-by : (rows : List ℕ) (constant : ℕ) → ℕ → ℕ
 affine-by ms c a = bitXor (linear-by ms a) c
 
@@ -71,9 +75,11 @@ affine-by ms c a = bitXor (linear-by ms a) c
 unfoldable pub rows : List ℕ
 rows = 0xf1 ∷ 0xe3 ∷ 0xc7 ∷ 0x8f ∷ 0x1f ∷ 0x3e ∷ 0x7c ∷ 0xf8 ∷ []
 
+-- the constant of the affine map of SubBytes
 abbrev pub constant : ℕ
 constant = 0x63
 
+-- Af, the affine map of SubBytes
 unfoldable pub affine : ℕ → ℕ
 affine a = affine-by rows constant a
 
@@ -83,16 +89,20 @@ s-box x = affine (inverse x)
 
 -- ---- Af once more, as FIPS 197 prints it: bit i is the sum of the bits i, i + 4 to i + 7 and bit i of 63, modulo 2
 
+-- bit i of a
 unfoldable pub bit : (a i : ℕ) → ℕ
 bit a i = a / 2 ^ (i % 8) % 2
 
+-- one output bit of the affine map, as FIPS 197 has it
 unfoldable pub affine-bit : (a i : ℕ) → ℕ
 affine-bit a i = (bit a i + bit a (i + 4) + bit a (i + 5) + bit a (i + 6) + bit a (i + 7) + bit constant i) % 2
 
+-- the output bits from i on, as many as are left
 unfoldable pub affine-from : (left i a : ℕ) → ℕ
 affine-from zero i a = 0
 affine-from (suc k) i a = affine-bit a i * 2 ^ i + affine-from k (suc i) a
 
+-- the affine map of SubBytes, bit by bit
 unfoldable pub affine-by-bits : ℕ → ℕ
 affine-by-bits a = affine-from 8 0 a
 
@@ -102,6 +112,7 @@ affine-by-bits a = affine-from 8 0 a
 unfoldable pub mixed : (a b c d : ℕ) → ℕ
 mixed a b c d = bitXor (bitXor (bitXor (times 2 a) (times 3 b)) c) d
 
+-- MixColumns of one column
 unfoldable pub mix-column : List ℕ → List ℕ
 mix-column s =
     let a = getD s 0 0 in

@@ -17,6 +17,7 @@ masked-product d a b ts = product times d a b ts
 unfoldable pub stage-z : (d : ℕ) (x tape : List ℕ) → List ℕ
 stage-z d x ts = refreshed d (map squared x) ts
 
+-- the first masked product, z · x
 unfoldable pub stage-y : (d : ℕ) (x tape : List ℕ) → List ℕ
 stage-y d x ts = masked-product d (stage-z d x ts) x (drop (refresh-need d) ts)
 
@@ -24,6 +25,7 @@ stage-y d x ts = masked-product d (stage-z d x ts) x (drop (refresh-need d) ts)
 unfoldable pub stage-w : (d : ℕ) (y tape : List ℕ) → List ℕ
 stage-w d y ts = refreshed d (map fourth y) ts
 
+-- the second masked product, y · w
 unfoldable pub stage-v : (d : ℕ) (y tape : List ℕ) → List ℕ
 stage-v d y ts = masked-product d y (stage-w d y ts) (drop (refresh-need d) ts)
 
@@ -35,6 +37,7 @@ stage-last d v w z ts = masked-product d (masked-product d (map sixteenth v) w t
 unfoldable pub stage-need : (d : ℕ) → ℕ
 stage-need d = refresh-need d + product-need d
 
+-- power 254 of a byte in shares: the inverse in the field
 unfoldable pub power-254 : (d : ℕ) (x tape : List ℕ) → List ℕ
 power-254 d x ts =
     let y = stage-y d x ts in
@@ -48,6 +51,7 @@ unfoldable pub corrected : (digit : ℕ) → List ℕ → List ℕ
 corrected zero ys = ys
 corrected (suc k) ys = into ys 0 constant
 
+-- SubBytes of one byte in shares
 unfoldable pub box : (d : ℕ) (x tape : List ℕ) → List ℕ
 box d x ts = corrected (d % 2) (map affine (power-254 d x ts))
 

@@ -21,6 +21,7 @@ word-stored nk d m i keys tape =
     let t₁ = laid (masked-temp d (kind nk i) (i / nk) (parts (suc d) 4 t₀) tape) in
     laid (each-by (stored nk i t₁) 0 (parts (suc d) m keys))
 
+-- what one word asks: its number, and the lengths of keys, tape and scratch
 pub record Word-fits (nk d m i : ℕ) (keys tape x y t : List ℕ) : Type 0 where
   pub order : d ≤ 8
   pub some : 1 ≤ nk
@@ -32,6 +33,7 @@ pub record Word-fits (nk d m i : ℕ) (keys tape x y t : List ℕ) : Type 0 wher
   pub y-long : length y ≡ suc d
   pub t-long : length t ≡ suc d * 4
 
+-- the same for all words up to the total
 pub record Expand-fits (nk d total : ℕ) (keys tape x y t : List ℕ) : Type 0 where
   pub order : d ≤ 8
   pub some : 1 ≤ nk

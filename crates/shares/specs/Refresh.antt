@@ -19,6 +19,7 @@ stirred (p ∷ ps) xs ts = stirred ps (into (into xs (p .0) (at ts 0)) (p .1) (a
 unfoldable pub refresh-pairs : (d : ℕ) → List (ℕ × ℕ)
 refresh-pairs d = tab (λ k. (0, suc k)) d
 
+-- the shares of the same byte, masked anew
 unfoldable pub refreshed : (d : ℕ) (shares tape : List ℕ) → List ℕ
 refreshed d xs ts = stirred (refresh-pairs d) xs ts
 
