@@ -1,29 +1,28 @@
--- What the tests of an encryption say: the size of the key, how much tape is wanted, which outcome it is. Assumes nothing.
-use mathlib.Core.Path.{_≡_, refl, sym, ap, ap₂, _∙_}
-use mathlib.Core.Bool.{Bool, true, false}
+-- What the tests of a call say: the size of the key, how much tape is wanted, which outcome it is; and what the cores make. Assumes nothing.
+use mathlib.Core.Path.{_≡_, refl, sym, ap, ap₂, _∙_, subst}
+use mathlib.Core.Bool.{Bool, true, false, cond}
 use mathlib.Core.List.{List}
 use Prim.Native.Nat.{ℕ, zero, suc, _+_, _*_, _-_, _/_, _≤_, _<_}
 use native.Mathlib.Nat.{mul-le-mul}
 use native.Mathlib.Numerals.{add-one}
 use native.Mathlib.Omega.{arith}
-use borrow.Author.Tests.{eqb-true, lt-ltb}
+use borrow.Author.Tests.{eqb-true, eq-eqb, ne-eqb, lt-ltb}
 use lib.Dec.{ltb, eqb}
 use lib.ListN.{length, take, drop}
 use Rattle.shares.specs.declared.Answer.{Answer}
 use Rattle.shares.specs.declared.Answer.the-variants.{Taken}
 use Rattle.shares.specs.Outcome.{refused, unserved, guarded, check, share-length}
-use Rattle.shares.specs.Strings.{Shares, parts, laid}
-use Rattle.shares.proofs.StringsLaws.{shared-parts, parts-laid}
+use Rattle.shares.specs.Strings.{parts, laid}
 use Rattle.shares.proofs.WriteLaws.{part-rest}
 use Rattle.shares.proofs.OutcomeLaws.{check-taken, share-length-cases, share-length-is}
 use Rattle.sbox.specs.Box.{box-need}
 use Rattle.sbox.proofs.BoxLaws.{box-need-is}
-use Rattle.aes.specs.Fits.{Key-size, four, six, eight}
 use Rattle.cipher.specs.Fips197.{rounds}
-use Rattle.cipher.specs.Cipher.{schedule, schedule-need, encrypted-with, encrypted, cipher-need, encrypted-laid}
-use Rattle.aes.specs.Calls.{key-words, boxes-of}
-use Rattle.cipher.proofs.Accuracy.{schedule-shared}
-use Rattle.cipher.proofs.NeedLaws.{counted}
+use Rattle.cipher.specs.Cipher.{schedule, schedule-need, prepared-laid, encrypted-with, encrypted-with-need, encrypted-with-laid, encrypted-laid}
+use Rattle.cipher.proofs.Accuracy.{encrypted-from-prepared}
+use Rattle.cipher.proofs.NeedLaws.{schedule-need-4, schedule-need-6, schedule-need-8, encrypted-with-need-is}
+use Rattle.aes.specs.Fits.{Key-size, four, six, eight}
+use Rattle.aes.specs.Calls.{key-words, prepared-length, prepared-words, boxes-of}
 
 -- ---- refusal 2
 
@@ -43,103 +42,164 @@ module _ (d l : ℕ) (some : 0 < key-words d l) where
   unfolding key-words
   key-sized = share-length-cases (λ s. Key-size (s / 4)) four six eight (d + 1) l key-share
 
-  pub key-length : l ≡ suc d * (4 * key-words d l)
+  pub key-length : l ≡ (d + 1) * (4 * key-words d l)
   unfolding key-words
   key-length =
       let e : 4 * (share-length (d + 1) l / 4) ≡ share-length (d + 1) l = share-length-cases (λ s. 4 * (s / 4) ≡ s) refl refl refl (d + 1) l key-share in
-      share-length-is (d + 1) l key-share ∙ ap₂ _*_ (add-one d) (sym e)
+      share-length-is (d + 1) l key-share ∙ ap (λ (m : ℕ). (d + 1) * m) (sym e)
 
--- ---- how much tape is wanted
+-- the same from prepared keys
+module _ (d l : ℕ) where
+  pub prepared-sized : 0 < prepared-words d l → Key-size (prepared-words d l)
+  unfolding prepared-words
+  prepared-sized = go (eqb l (prepared-length 4 d)) (eqb l (prepared-length 6 d)) (eqb l (prepared-length 8 d))
+    where
+      go : (a b c : Bool) → 0 < cond a 4 (cond b 6 (cond c 8 0)) → Key-size (cond a 4 (cond b 6 (cond c 8 0)))
+      go true b c h = four
+      go false true c h = six
+      go false false true h = eight
+      go false false false h = absurd (omega arith)
+
+  pub prepared-long : 0 < prepared-words d l → l ≡ prepared-length (prepared-words d l) d
+  unfolding prepared-words
+  prepared-long = go (eqb l (prepared-length 4 d)) refl (eqb l (prepared-length 6 d)) refl (eqb l (prepared-length 8 d)) refl
+    where
+      go : (a : Bool) → eqb l (prepared-length 4 d) ≡ a → (b : Bool) → eqb l (prepared-length 6 d) ≡ b → (c : Bool) → eqb l (prepared-length 8 d) ≡ c
+          → 0 < cond a 4 (cond b 6 (cond c 8 0)) → l ≡ prepared-length (cond a 4 (cond b 6 (cond c 8 0))) d
+      go true p b q c r h = eqb-true l (prepared-length 4 d) p
+      go false p true q c r h = eqb-true l (prepared-length 6 d) q
+      go false p false q true r h = eqb-true l (prepared-length 8 d) r
+      go false p false q false r h = absurd (omega arith)
+
+-- longer keys are prepared in a longer string
+longer : (d : ℕ) → (prepared-length 4 d < prepared-length 6 d) × (prepared-length 6 d < prepared-length 8 d)
+unfolding prepared-length rounds
+longer d = (omega arith, omega arith)
+
+-- keys that were prepared have the size of their key: the three lengths differ
+pub prepared-words-of : {nk : ℕ} (d : ℕ) → Key-size nk → prepared-words d (prepared-length nk d) ≡ nk
+unfolding prepared-words
+prepared-words-of d four = simp (eq-eqb (prepared-length 4 d) (prepared-length 4 d) refl)
+prepared-words-of d six =
+    let a : prepared-length 6 d ≡ prepared-length 4 d → ⊥ = λ e. omega (arith, longer d) in
+    simp (ne-eqb (prepared-length 6 d) (prepared-length 4 d) a, eq-eqb (prepared-length 6 d) (prepared-length 6 d) refl)
+prepared-words-of d eight =
+    let a : prepared-length 8 d ≡ prepared-length 4 d → ⊥ = λ e. omega (arith, longer d) in
+    let b : prepared-length 8 d ≡ prepared-length 6 d → ⊥ = λ e. omega (arith, longer d) in
+    simp (ne-eqb (prepared-length 8 d) (prepared-length 4 d) a, ne-eqb (prepared-length 8 d) (prepared-length 6 d) b, eq-eqb (prepared-length 8 d) (prepared-length 8 d) refl)
+
+-- ---- how long and how much
 
 pub size-bounds : {nk : ℕ} → Key-size nk → (1 ≤ nk) × (nk ≤ 8)
 size-bounds four = (omega arith, omega arith)
 size-bounds six = (omega arith, omega arith)
 size-bounds eight = (omega arith, omega arith)
 
-pub boxes-bound : {nk : ℕ} → Key-size nk → boxes-of nk ≤ 52
+-- the length of prepared keys, as the code counts it
+pub prepared-length-is : (nk d : ℕ) → (d + 1) * (16 * (nk + 7)) ≡ prepared-length nk d
+unfolding prepared-length rounds
+prepared-length-is nk d = let e : 16 * (nk + 7) ≡ 16 * suc (nk + 6) = omega arith in ap (λ (m : ℕ). (d + 1) * m) e
+
+pub prepared-length-bound : (nk d : ℕ) → d ≤ 8 → nk ≤ 8 → (d + 1) * (16 * (nk + 7)) ≤ 2160
+prepared-length-bound nk d h g =
+    let a : d + 1 ≤ 9 = omega arith in
+    let b : 16 * (nk + 7) ≤ 240 = omega arith in
+    mul-le-mul a b
+
+boxes-bound : {nk : ℕ} → Key-size nk → boxes-of nk ≤ 52
 unfolding boxes-of
 boxes-bound four = omega arith
 boxes-bound six = omega arith
 boxes-bound eight = omega arith
 
-pub cipher-need-made : {nk : ℕ} (d : ℕ) → Key-size nk → (boxes-of nk + 16 * (nk + 6)) * box-need d ≡ cipher-need nk d
-unfolding boxes-of
-cipher-need-made d four = sym (counted d .key-16)
-cipher-need-made d six = sym (counted d .key-24)
-cipher-need-made d eight = sym (counted d .key-32)
-
-pub box-need-bound : (d : ℕ) → d ≤ 8 → box-need d ≤ 160
+box-need-bound : (d : ℕ) → d ≤ 8 → box-need d ≤ 160
 box-need-bound d h =
     let t : 2 * d ≤ 16 = omega arith in
     let m : 2 * d * d ≤ 128 = mul-le-mul t h in
     omega (arith, box-need-is d)
 
--- ---- the code's own test of lengths and tape
+pub schedule-need-made : {nk : ℕ} (d : ℕ) → Key-size nk → boxes-of nk * box-need d ≡ schedule-need nk d
+unfolding boxes-of
+schedule-need-made d four = sym (schedule-need-4 d)
+schedule-need-made d six = sym (schedule-need-6 d)
+schedule-need-made d eight = sym (schedule-need-8 d)
 
-module _ (d : ℕ) (k : List ℕ) (nk : ℕ) (words : nk ≡ key-words d (length k)) (some : nk ≡ 0 → ⊥) where
-  some-words : 0 < key-words d (length k)
+pub schedule-need-bound : {nk : ℕ} (d : ℕ) → Key-size nk → d ≤ 8 → boxes-of nk * box-need d ≤ 8320
+schedule-need-bound d size h = mul-le-mul (boxes-bound size) (box-need-bound d h)
+
+pub rounds-need-made : {nk : ℕ} (d : ℕ) → Key-size nk → 16 * (nk + 6) * box-need d ≡ encrypted-with-need nk d
+unfolding rounds
+rounds-need-made d four = omega (arith, encrypted-with-need-is 4 d)
+rounds-need-made d six = omega (arith, encrypted-with-need-is 6 d)
+rounds-need-made d eight = omega (arith, encrypted-with-need-is 8 d)
+
+pub rounds-need-bound : {nk : ℕ} (d : ℕ) → Key-size nk → d ≤ 8 → 16 * (nk + 6) * box-need d ≤ 35840
+rounds-need-bound {nk} d size h =
+    let b = size-bounds size in
+    let n : 16 * (nk + 6) ≤ 224 = omega arith in
+    mul-le-mul n (box-need-bound d h)
+
+-- ---- the code's own tests: nk words were found, and they are not 0
+
+module _ (nk found : ℕ) (words : nk ≡ found) (some : nk ≡ 0 → ⊥) where
+  some-words : 0 < found
   some-words = rw words at (positive nk some)
     where
       positive : (n : ℕ) → (n ≡ 0 → ⊥) → 0 < n
       positive zero h = absurd (h refl)
       positive (suc n) h = omega arith
 
-  pub encrypt-sized : Key-size nk
-  encrypt-sized = rw words (key-sized d (length k) some-words)
+  -- what holds of the words by definition holds of those found
+  pub keyed : (P : ℕ → Type 0) → (0 < found → P found) → P nk
+  keyed P f = subst P (sym words) (f some-words)
 
-  module _ (x ts o : List ℕ) (answer : Answer) where
-    -- the answer to a need that was worked out
-    abbrev made-check : (key : Bool) (need : ℕ) → Answer
-    made-check key need = check key (eqb (length x) ((d + 1) * 16)) (eqb (length o) ((d + 1) * 16)) (length ts) need
-
-    abbrev Checked : Type 0
-    Checked = answer ≡ made-check (ltb 0 (key-words d (length k))) (cipher-need (key-words d (length k)) d)
-
-    pub encrypt-checked : (need : ℕ) → need ≡ cipher-need nk d → answer ≡ made-check true need → Checked
-    encrypt-checked need g f =
-        f ∙ ap₂ made-check (sym (lt-ltb 0 (key-words d (length k)) some-words)) (g ∙ ap (λ (n : ℕ). cipher-need n d) words)
+  -- the answer to a length and a need that were worked out for nk is the one for the words by definition
+  module _ (input : Bool) (room : ℕ → Bool) (tape : ℕ) (need : ℕ → ℕ) (answer : Answer) (r : Bool) (n : ℕ) (roomy : r ≡ room nk) (needed : n ≡ need nk) (checked : answer ≡ check true input r tape n) where
+    pub keyed-check : answer ≡ check (ltb 0 found) input (room found) tape (need found)
+    keyed-check =
+        checked ∙ ap₂ (λ (b : Bool) (m : ℕ). check true input b tape m) (roomy ∙ ap room words) (needed ∙ ap need words)
+        ∙ ap (λ (k : Bool). check k input (room found) tape (need found)) (sym (lt-ltb 0 found some-words))
 
     -- what is known where it lets a call through
     pub record Ready (taken : ℕ) : Type 0 where
-      pub key : length k ≡ suc d * (4 * nk)
-      pub input : length x ≡ suc d * 16
-      pub output : length o ≡ suc d * 16
-      pub drawn : cipher-need nk d ≤ length ts
-      pub answered : taken ≡ cipher-need nk d
+      pub input-fits : input ≡ true
+      pub output-fits : room nk ≡ true
+      pub drawn : need nk ≤ tape
+      pub answered : taken ≡ need nk
 
-    pub encrypt-ready : (q : ℕ) → Checked → answer ≡ Taken q → Ready q
-    encrypt-ready q e f =
-        let h = check-taken _ _ _ _ _ q (sym e ∙ f) in
-        let n = ap (λ (m : ℕ). m * 16) (add-one d) in
-        record {
-          key = rw words (key-length d (length k) some-words);
-          input = eqb-true (length x) ((d + 1) * 16) (h .1) ∙ n;
-          output = eqb-true (length o) ((d + 1) * 16) (h .2) ∙ n;
-          drawn = rw words (h .3);
-          answered = h .4 ∙ ap (λ (n : ℕ). cipher-need n d) (sym words);
-        }
+    pub keyed-ready : (q : ℕ) → answer ≡ Taken q → Ready q
+    keyed-ready q e =
+        let h = check-taken true input r tape n q (sym checked ∙ e) in
+        record { input-fits = h .1; output-fits = sym roomy ∙ h .2; drawn = rw needed at (h .3); answered = h .4 ∙ needed }
 
--- ---- an encryption, from the two calls that make it
+pub block-long : (d l : ℕ) → eqb l ((d + 1) * 16) ≡ true → l ≡ suc d * 16
+block-long d l e = eqb-true l ((d + 1) * 16) e ∙ ap (λ (n : ℕ). n * 16) (add-one d)
 
--- the round keys' length, as the code counts it
-pub keys-size : (nk d : ℕ) → (d + 1) * (16 * (nk + 7)) ≡ suc d * (16 * suc (rounds nk))
-unfolding rounds
-keys-size nk d = let e : 16 * (nk + 7) ≡ 16 * suc (nk + 6) = omega arith in ap₂ _*_ (add-one d) e
+pub key-long : (nk d l : ℕ) → l ≡ (d + 1) * (4 * nk) → l ≡ suc d * (4 * nk)
+key-long nk d l e = e ∙ ap (λ (n : ℕ). n * (4 * nk)) (add-one d)
 
-pub keys-room : (nk d : ℕ) → d ≤ 8 → nk ≤ 8 → (d + 1) * (16 * (nk + 7)) ≤ 2160
-keys-room nk d h g =
-    let a : d + 1 ≤ 9 = omega arith in
-    let b : 16 * (nk + 7) ≤ 240 = omega arith in
-    mul-le-mul a b
+pub keys-long : (nk d l : ℕ) → l ≡ prepared-length nk d → l ≡ suc d * (16 * suc (rounds nk))
+unfolding prepared-length
+keys-long nk d l e = e ∙ ap (λ (n : ℕ). n * (16 * suc (rounds nk))) (add-one d)
 
+-- ---- what the cores make, as the outcomes name it
+
+pub prepared-made : (nk d : ℕ) (k ts keys : List ℕ) → keys ≡ laid (schedule nk d (parts (suc d) (4 * nk) k) ts) → keys ≡ prepared-laid nk d k ts
+unfolding prepared-laid
+prepared-made nk d k ts keys e = rw add-one e
+
+pub encrypted-with-made : (nk d : ℕ) (keys x ts q : List ℕ)
+    → q ≡ laid (encrypted-with nk d (parts (suc d) (16 * suc (rounds nk)) keys) (parts (suc d) 16 x) ts) → q ≡ encrypted-with-laid nk d keys x ts
+unfolding encrypted-with-laid
+encrypted-with-made nk d keys x ts q e = rw add-one e
+
+-- an encryption, from the two calls that make it
 pub encrypted-made : (nk d n : ℕ) (k x ts keys q : List ℕ) → 1 ≤ nk → length k ≡ suc d * (4 * nk)
     → keys ≡ laid (schedule nk d (parts (suc d) (4 * nk) k) ts) → n ≡ schedule-need nk d
     → q ≡ laid (encrypted-with nk d (parts (suc d) (16 * suc (rounds nk)) keys) (parts (suc d) 16 x) (take (length ts - n) (drop n ts)))
     → q ≡ encrypted-laid nk d k x ts
-unfolding encrypted-laid encrypted
 encrypted-made nk d n k x ts keys q h l e m g =
-    let shape = schedule-shared nk ts h (shared-parts d (4 * nk) k (omega arith)) in
-    let back : parts (suc d) (16 * suc (rounds nk)) keys ≡ schedule nk d (parts (suc d) (4 * nk) k) ts = ap (parts (suc d) (16 * suc (rounds nk))) e ∙ parts-laid shape in
     let rest : take (length ts - n) (drop n ts) ≡ drop (schedule-need nk d) ts = part-rest ts n ∙ ap (λ (b : ℕ). drop b ts) m in
-    g ∙ ap₂ (λ (p : Shares) (t : List ℕ). laid (encrypted-with nk d p (parts (suc d) 16 x) t)) back rest
-    ∙ ap (λ (b : ℕ). laid (encrypted-with nk d (schedule nk d (parts b (4 * nk) k) ts) (parts b 16 x) (drop (schedule-need nk d) ts))) (sym (add-one d))
+    encrypted-with-made nk d keys x _ q g
+    ∙ ap₂ (λ (p t : List ℕ). encrypted-with-laid nk d p x t) (prepared-made nk d k ts keys e) rest
+    ∙ encrypted-from-prepared nk d k x ts h (l ∙ ap (λ (b : ℕ). b * (4 * nk)) (sym (add-one d)))

@@ -1,22 +1,56 @@
--- The outcome of an encryption on every input, refusals included. Document 01, "Turned-down calls", decides. Assumes nothing: these are definitions.
-use mathlib.Core.Bool.{cond}
+-- The outcome of each public routine on every input, refusals included. Document 01, "Turned-down calls", decides, and for prepared keys
+-- document 02, wish 1. Assumes nothing: these are definitions.
+use mathlib.Core.Bool.{cond, true}
 use mathlib.Core.List.{List}
-use Prim.Native.Nat.{ℕ, _+_, _*_, _/_}
+use Prim.Native.Nat.{ℕ, suc, _+_, _*_, _/_}
 use lib.Dec.{ltb, eqb}
 use lib.ListN.{length}
-use Rattle.shares.specs.Outcome.{Outcome, guarded, share-length}
-use Rattle.cipher.specs.Cipher.{encrypted-laid, cipher-need}
+use Rattle.shares.specs.Outcome.{Outcome, done, refused, guarded, share-length}
+use Rattle.cipher.specs.Fips197.{rounds}
+use Rattle.cipher.specs.Cipher.{schedule-need, prepared-laid, encrypted-with-need, encrypted-with-laid, cipher-need, encrypted-laid}
+
+-- ---- lengths
 
 -- how many words the key has, by the length of its n = d + 1 shares: 4, 6 or 8, and 0 where the length is no key's
 unfoldable pub key-words : (d length : ℕ) → ℕ
 key-words d l = share-length (d + 1) l / 4
 
+-- the length of prepared keys: n · 16 · (Nr + 1)
+unfoldable pub prepared-length : (nk d : ℕ) → ℕ
+prepared-length nk d = (d + 1) * (16 * suc (rounds nk))
+
+-- how many words the key behind prepared keys has, by their length: 4, 6 or 8, and 0 where it is none of the three
+unfoldable pub prepared-words : (d length : ℕ) → ℕ
+prepared-words d l =
+    cond (eqb l (prepared-length 4 d)) 4
+    (cond (eqb l (prepared-length 6 d)) 6
+    (cond (eqb l (prepared-length 8 d)) 8 0))
+
 -- how many S-boxes the expansion of such a key has
 unfoldable pub boxes-of : (nk : ℕ) → ℕ
 boxes-of nk = cond (eqb nk 4) 40 (cond (eqb nk 6) 32 52)
 
--- key shares, then an input and an output of n · 16 bytes
+-- ---- the routines
+
+-- encryption: key shares, then an input and an output of n · 16 bytes
 unfoldable pub Encrypt-outcome : (order : ℕ) (key input tape output : List ℕ) → Outcome
 Encrypt-outcome d k x ts o =
     let nk = key-words d (length k) in
     guarded d (ltb 0 nk) (eqb (length x) ((d + 1) * 16)) (eqb (length o) ((d + 1) * 16)) (length ts) (cipher-need nk d) o (encrypted-laid nk d k x ts)
+
+-- preparation: key shares, and an output of n · 16 · (Nr + 1) bytes; it has no input that could be refused with 3
+unfoldable pub Prepare-outcome : (order : ℕ) (key tape output : List ℕ) → Outcome
+Prepare-outcome d k ts o =
+    let nk = key-words d (length k) in
+    guarded d (ltb 0 nk) true (eqb (length o) (prepared-length nk d)) (length ts) (schedule-need nk d) o (prepared-laid nk d k ts)
+
+-- encryption from prepared keys, whatever bytes they hold; then an input and an output of n · 16 bytes
+unfoldable pub Encrypt-prepared-outcome : (order : ℕ) (prepared input tape output : List ℕ) → Outcome
+Encrypt-prepared-outcome d ks x ts o =
+    let nk = prepared-words d (length ks) in
+    guarded d (ltb 0 nk) (eqb (length x) ((d + 1) * 16)) (eqb (length o) ((d + 1) * 16)) (length ts) (encrypted-with-need nk d) o (encrypted-with-laid nk d ks x ts)
+
+-- the outcome of a call, counted together with n bytes drawn before it
+abbrev pub after : (n : ℕ) → Outcome → Outcome
+after n (done k q) = done (n + k) q
+after n (refused r q) = refused r q

@@ -1,9 +1,14 @@
-// Encryption over shares. Document 01 decides; specs/Calls.antt is the outcome on every input, the crate cipher has the standard and the steps
-// over shares.
+// Encryption over shares, by a single call or from prepared keys. Documents 01 and 02 decide; specs/Calls.antt is the outcome on every input,
+// the crate cipher has the standard and the steps over shares.
 //
-// The routine of document 01 stands at the root, and asks nothing of a caller. What stands in the modules besides serves the crates above;
+// The routines of the documents stand at the root, and ask nothing of a caller. What stands in the modules besides serves the crates above;
 // where it has a `requires`, its callers prove it.
 pub mod encryption;
+pub mod needs;
+pub mod preparation;
 pub mod rounds;
+pub mod sizes;
 
 pub use encryption::encrypt;
+pub use preparation::encrypt_prepared;
+pub use preparation::prepare;

@@ -7,10 +7,10 @@ use native.Mathlib.Numerals.{add-one}
 use native.Mathlib.Omega.{arith}
 use lib.ListN.{length, drop}
 use Rattle.xor.specs.Sums.{xors}
-use Rattle.shares.specs.Strings.{Shares, Shared, joined-string, parts, split, split-need}
+use Rattle.shares.specs.Strings.{Shares, Shared, joined-string, laid, parts, split, split-need}
 use Rattle.shares.proofs.StringsLaws.{parts-laid, shared-parts, shared-split, split-joins}
 use Rattle.cipher.specs.Fips197.{rounds, total-words, key-expansion, add-round-key, rounds-from, cipher-with, cipher}
-use Rattle.cipher.specs.Cipher.{schedule, schedule-need, round-keys, encrypted-with, encrypted, encrypted-laid}
+use Rattle.cipher.specs.Cipher.{schedule, schedule-need, round-keys, encrypted-with, encrypted, prepared-laid, encrypted-with-laid, encrypted-laid}
 use Rattle.cipher.proofs.StatesLaws.{adds-shared, adds-joins}
 use Rattle.cipher.proofs.CipherLaws.{schedule-from-shared, schedule-from-joins, round-keys-shared, round-keys-join, rounds-shared, rounds-join}
 
@@ -70,6 +70,35 @@ cipher-joins-laid nk d k x ts some-words lk lx =
     let hk = shared-parts d (4 * nk) k (omega arith) in
     let hx = shared-parts d 16 x (omega arith) in
     rw add-one (ap joined-string (parts-laid (encrypted-shared nk ts some-words hk hx)) ∙ cipher-joins nk ts some-words hk hx)
+
+-- prepared keys join to the round keys of FIPS 197
+pub prepared-joins-laid : (nk d : ℕ) (k ts : List ℕ) → 1 ≤ nk → length k ≡ (d + 1) * (4 * nk)
+    → joined-string (parts (d + 1) (16 * suc (rounds nk)) (prepared-laid nk d k ts)) ≡ key-expansion nk (joined-string (parts (d + 1) (4 * nk) k))
+unfolding prepared-laid
+prepared-joins-laid nk d k ts some-words lk =
+    let lk′ = rw add-one at lk in
+    let hk = shared-parts d (4 * nk) k (omega arith) in
+    rw add-one (ap joined-string (parts-laid (schedule-shared nk ts some-words hk)) ∙ schedule-joins nk ts some-words hk)
+
+-- the rounds from any prepared keys join to FIPS 197's, with what these join to as round keys
+pub encrypted-with-joins-laid : (nk d : ℕ) (ks x ts : List ℕ) → length ks ≡ (d + 1) * (16 * suc (rounds nk)) → length x ≡ (d + 1) * 16
+    → joined-string (parts (d + 1) 16 (encrypted-with-laid nk d ks x ts))
+    ≡ cipher-with nk (joined-string (parts (d + 1) (16 * suc (rounds nk)) ks)) (joined-string (parts (d + 1) 16 x))
+unfolding encrypted-with-laid
+encrypted-with-joins-laid nk d ks x ts lk lx =
+    let lk′ = rw add-one at lk in
+    let hk = shared-parts d (16 * suc (rounds nk)) ks (omega arith) in
+    let hx = shared-parts d 16 x (omega arith) in
+    rw add-one (ap joined-string (parts-laid (encrypted-with-shared nk ts (omega arith) hk hx)) ∙ encrypted-with-joins nk ts (omega arith) hk hx)
+
+-- preparing, and then the rounds on the rest of the tape, give the very shares of the encryption
+pub encrypted-from-prepared : (nk d : ℕ) (k x ts : List ℕ) → 1 ≤ nk → length k ≡ (d + 1) * (4 * nk)
+    → encrypted-with-laid nk d (prepared-laid nk d k ts) x (drop (schedule-need nk d) ts) ≡ encrypted-laid nk d k x ts
+unfolding prepared-laid encrypted-with-laid encrypted-laid encrypted
+encrypted-from-prepared nk d k x ts some-words lk =
+    let lk′ = rw add-one at lk in
+    let back = parts-laid (schedule-shared nk ts some-words (shared-parts d (4 * nk) k (omega arith))) in
+    rw add-one (ap (λ (ks : Shares). laid (encrypted-with nk d ks (parts (suc d) 16 x) (drop (schedule-need nk d) ts))) back)
 
 -- the rule from a key and a block: split both, encrypt, join
 pub split-cipher-joins : (nk d : ℕ) (key x for-key for-x ts : List ℕ) → 1 ≤ nk → length key ≡ 4 * nk → length x ≡ 16

@@ -32,14 +32,16 @@ unfolding rounds-need subs-need
 rounds-need-is zero d = omega arith
 rounds-need-is (suc left) d = let ih = rounds-need-is left d in omega (arith, suc-mul (suc left) (16 * box-need d))
 
--- 160, 192 and 224 S-boxes
 pub encrypted-with-need-is : (nk d : ℕ) → encrypted-with-need nk d ≡ rounds nk * (16 * box-need d)
 unfolding encrypted-with-need rounds
 encrypted-with-need-is nk d = rounds-need-is (nk + 6 - 1) d ∙ ap (λ (n : ℕ). n * (16 * box-need d)) (omega arith)
 
--- ---- encryption with its key expansion: 200, 224 and 276 S-boxes
+-- ---- S-boxes: 160, 192 and 224 in the rounds; 200, 224 and 276 with the key expansion
 
 pub record Counted (d : ℕ) : Type 0 where
+  pub rounds-16 : encrypted-with-need 4 d ≡ 160 * box-need d
+  pub rounds-24 : encrypted-with-need 6 d ≡ 192 * box-need d
+  pub rounds-32 : encrypted-with-need 8 d ≡ 224 * box-need d
   pub key-16 : cipher-need 4 d ≡ 200 * box-need d
   pub key-24 : cipher-need 6 d ≡ 224 * box-need d
   pub key-32 : cipher-need 8 d ≡ 276 * box-need d

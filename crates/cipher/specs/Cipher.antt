@@ -121,6 +121,14 @@ cipher-need nk d = schedule-need nk d + encrypted-with-need nk d
 
 -- ---- the same on the layout share after share
 
+-- prepared keys: the round keys in shares, share after share
+unfoldable pub prepared-laid : (nk d : ℕ) → (key tape : List ℕ) → List ℕ
+prepared-laid nk d k ts = laid (schedule nk d (parts (d + 1) (4 * nk) k) ts)
+
+-- the rounds from prepared keys, share after share
+unfoldable pub encrypted-with-laid : (nk d : ℕ) → (prepared input tape : List ℕ) → List ℕ
+encrypted-with-laid nk d ks x ts = laid (encrypted-with nk d (parts (d + 1) (16 * suc (rounds nk)) ks) (parts (d + 1) 16 x) ts)
+
 -- the encryption of a block, share after share
 unfoldable pub encrypted-laid : (nk d : ℕ) → (key input tape : List ℕ) → List ℕ
 encrypted-laid nk d k x ts = laid (encrypted nk d (parts (d + 1) (4 * nk) k) (parts (d + 1) 16 x) ts)

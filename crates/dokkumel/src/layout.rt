@@ -112,7 +112,7 @@ fn print(nk: usize, d: usize)
 {
     let start = Spot { number: 0, at: 0 };
     rounds(nk, d, key_words(nk, d, start));
-    text::print_with(b"total ", aes::encryption::cipher_need(nk, d));
+    text::print_with(b"total ", aes::needs::cipher_need(nk, d));
     text::print(b"\n");
 }
 

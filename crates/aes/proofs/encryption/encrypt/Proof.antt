@@ -1,15 +1,17 @@
 -- `aes::encryption::encrypt` meets its contract. Assumes nothing.
-use mathlib.Core.Path.{ap, sym, _∙_}
-use Prim.Native.Nat.{ℕ, _≤_}
+use mathlib.Core.Path.{_≡_, refl, ap, sym, _∙_}
+use Prim.Native.Nat.{ℕ, _+_, _*_, _≤_}
 use native.Mathlib.Omega.{arith}
 use borrow.Author.Tests.{le-ltb}
 use borrow.Author.Needs.{needs}
 use denote.Ref.{now}
+use lib.Dec.{eqb}
 use lib.ListN.{length}
 use Rattle.shares.proofs.OutcomeLaws.{served-bounds, guarded-unserved, guarded-refused, guarded-done}
-use Rattle.cipher.specs.Cipher.{encrypted-laid}
+use Rattle.cipher.specs.Cipher.{cipher-need, encrypted-laid}
+use Rattle.aes.specs.Fits.{Key-size}
 use Rattle.aes.specs.Calls.{key-words, Encrypt-outcome}
-use Rattle.aes.proofs.CallsLaws.{guarded-key, size-bounds, encrypt-sized, encrypt-checked, encrypt-ready}
+use Rattle.aes.proofs.CallsLaws.{guarded-key, key-sized, key-length, size-bounds, keyed, keyed-check, keyed-ready, block-long, key-long}
 use Rattle.aes.proofs.encryption.encrypt.Statement.{statement}
 use Rattle.aes.proofs.encryption.encrypt.Tie as tie
 
@@ -40,7 +42,7 @@ cipher-need-requires : tie.Need-cipher-need-requires
 cipher-need-requires c κs =
     let a = c .before .before .before .before .before .before .before .before .args in
     let b = served-bounds (a .order) (sym (c .before .before .before .unserved .ensures) ∙ c .before .before .if1 .left) in
-    (b .1, encrypt-sized (a .order) (now (a .key)) _ (c .before .key-words .ensures .0) (c .if2 .left))
+    (b .1, keyed _ _ (c .before .key-words .ensures .0) (c .if2 .left) Key-size (key-sized (a .order) (length (now (a .key)))))
 
 checked-requires : tie.Need-checked-requires
 checked-requires c κs = search needs
@@ -55,7 +57,7 @@ returns-3 : tie.Need-returns-3
 unfolding Encrypt-outcome
 returns-3 c =
     let a = c .before .before .before .before .before .before .before .before .before .before .before .before .args in
-    let e = encrypt-checked (a .order) (now (a .key)) _ (c .before .before .before .before .before .key-words .ensures .0) (c .before .before .before .before .if2 .left) (now (a .input)) (now (a .tape)) (now (a .output)) _ _ (c .before .before .before .cipher-need .ensures) (c .before .before .checked .ensures) in
+    let e = keyed-check _ _ (c .before .before .before .before .before .key-words .ensures .0) (c .before .before .before .before .if2 .left) _ (λ m. eqb (length (now (a .output))) ((a .order + 1) * 16)) _ (λ m. cipher-need m (a .order)) _ _ _ refl (c .before .before .before .cipher-need .ensures) (c .before .before .checked .ensures) in
     guarded-refused _ _ _ _ _ _ _ _ (sym (c .before .before .before .before .before .before .before .unserved .ensures) ∙ c .before .before .before .before .before .before .if1 .left) _ e _ (c .enum-told2 .given .1)
 
 encrypt-core-requires : tie.Need-encrypt-core-requires
@@ -64,10 +66,10 @@ encrypt-core-requires c κs =
     let b = served-bounds (a .order) (sym (c .before .before .before .before .before .before .before .before .unserved .ensures) ∙ c .before .before .before .before .before .before .before .if1 .left) in
     let w = c .before .before .before .before .before .before .key-words .ensures .0 in
     let some = c .before .before .before .before .before .if2 .left in
-    let e = encrypt-checked (a .order) (now (a .key)) _ w some (now (a .input)) (now (a .tape)) (now (a .output)) _ _ (c .before .before .before .before .cipher-need .ensures) (c .before .before .before .checked .ensures) in
-    let r = encrypt-ready (a .order) (now (a .key)) _ w some (now (a .input)) (now (a .tape)) (now (a .output)) _ _ e (c .before .enum-told .given .1) in
-    let n = size-bounds (encrypt-sized (a .order) (now (a .key)) _ w some) in
-    (b .1, n .0, n .1, r .key, r .input, r .output, r .drawn)
+    let r = keyed-ready _ _ w some _ (λ m. eqb (length (now (a .output))) ((a .order + 1) * 16)) _ (λ m. cipher-need m (a .order)) _ _ _ refl (c .before .before .before .before .cipher-need .ensures) (c .before .before .before .checked .ensures) _ (c .before .enum-told .given .1) in
+    let n = size-bounds (keyed _ _ w some Key-size (key-sized (a .order) (length (now (a .key))))) in
+    let k = keyed _ _ w some (λ m. length (now (a .key)) ≡ (a .order + 1) * (4 * m)) (key-length (a .order) (length (now (a .key)))) in
+    (b .1, n .0, n .1, key-long _ (a .order) _ k, block-long (a .order) _ (r .input-fits), block-long (a .order) _ (r .output-fits), r .drawn)
 
 same-length : tie.Need-same-length
 same-length c = search needs
@@ -78,8 +80,8 @@ returns-4 c =
     let a = c .before .before .before .before .before .before .before .before .before .before .before .before .before .before .before .before .args in
     let w = c .before .before .before .before .before .before .before .before .before .key-words .ensures .0 in
     let some = c .before .before .before .before .before .before .before .before .if2 .left in
-    let e = encrypt-checked (a .order) (now (a .key)) _ w some (now (a .input)) (now (a .tape)) (now (a .output)) _ _ (c .before .before .before .before .before .before .before .cipher-need .ensures) (c .before .before .before .before .before .before .checked .ensures) in
-    let r = encrypt-ready (a .order) (now (a .key)) _ w some (now (a .input)) (now (a .tape)) (now (a .output)) _ _ e (c .before .before .before .before .enum-told .given .1) in
+    let e = keyed-check _ _ w some _ (λ m. eqb (length (now (a .output))) ((a .order + 1) * 16)) _ (λ m. cipher-need m (a .order)) _ _ _ refl (c .before .before .before .before .before .before .before .cipher-need .ensures) (c .before .before .before .before .before .before .checked .ensures) in
+    let r = keyed-ready _ _ w some _ (λ m. eqb (length (now (a .output))) ((a .order + 1) * 16)) _ (λ m. cipher-need m (a .order)) _ _ _ refl (c .before .before .before .before .before .before .before .cipher-need .ensures) (c .before .before .before .before .before .before .checked .ensures) _ (c .before .before .before .before .enum-told .given .1) in
     let made = c .before .before .encrypt-core .ensures in
     guarded-done _ _ _ _ _ _ _ _ (sym (c .before .before .before .before .before .before .before .before .before .before .before .unserved .ensures) ∙ c .before .before .before .before .before .before .before .before .before .before .if1 .left) _ e _ _ _ (c .before .before .before .before .enum-told .given .1) (made .0 ∙ sym (r .answered)) (made .1 ∙ ap (λ (n : ℕ). encrypted-laid n (a .order) (now (a .key)) (now (a .input)) (now (a .tape))) w)
 

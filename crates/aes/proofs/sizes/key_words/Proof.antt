@@ -1,4 +1,4 @@
--- `aes::encryption::key_words` meets its contract. Assumes nothing.
+-- `aes::sizes::key_words` meets its contract. Assumes nothing.
 use mathlib.Core.Path.{ap}
 use Prim.Native.Nat.{ℕ, _≤_, _+_, _/_}
 use native.Mathlib.Omega.{arith}
@@ -6,8 +6,8 @@ use borrow.Author.Needs.{needs}
 use Rattle.shares.specs.Outcome.{share-length}
 use Rattle.shares.proofs.OutcomeLaws.{share-length-le}
 use Rattle.aes.specs.Calls.{key-words}
-use Rattle.aes.proofs.encryption.key_words.Statement.{statement}
-use Rattle.aes.proofs.encryption.key_words.Tie as tie
+use Rattle.aes.proofs.sizes.key_words.Statement.{statement}
+use Rattle.aes.proofs.sizes.key_words.Tie as tie
 
 add-share-length : tie.Need-add-share-length
 add-share-length c = search needs

@@ -1,8 +1,8 @@
--- `aes::encryption::key_boxes` meets its contract. Assumes nothing.
+-- `aes::needs::key_boxes` meets its contract. Assumes nothing.
 use borrow.Author.Tests.{eq-eqb, ne-eqb}
 use Rattle.aes.specs.Calls.{boxes-of}
-use Rattle.aes.proofs.encryption.key_boxes.Statement.{statement}
-use Rattle.aes.proofs.encryption.key_boxes.Tie as tie
+use Rattle.aes.proofs.needs.key_boxes.Statement.{statement}
+use Rattle.aes.proofs.needs.key_boxes.Tie as tie
 
 returns : tie.Need-returns
 unfolding boxes-of

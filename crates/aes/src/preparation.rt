@@ -1,0 +1,63 @@
+// Round keys in shares, prepared once, and encryption from them. Document 02, wish 1, decides.
+ghost use mathlib.Core.Path.{_≡_};
+ghost use Rattle.shares.specs.Outcome.{outcome};
+ghost use Rattle.aes.specs.Calls.{Prepare-outcome, Encrypt-prepared-outcome};
+use crate::needs;
+use crate::sizes;
+use shares::Answer;
+use shares::Refusal;
+
+// The masked key expansion, once: round keys 0 to Nr of share 0, then those of share 1, and so on.
+pub fn prepare(order: usize, key: &[u8], tape: &[u8], output: &mut [u8]) -> Answer
+    ensures { λ r. ⌜ outcome r (now (output .exit)) ≡ Prepare-outcome order (now (key .entry)) (now (tape .entry)) (now (output .entry)) ⌝ }
+{
+    if shares::answers::unserved(order) {
+        return Answer::Refused(Refusal::Order);
+    }
+    let nk = sizes::key_words(order, key.len());
+    if nk == 0 {
+        return Answer::Refused(Refusal::Key);
+    }
+    let answer = shares::answers::checked(
+        true,
+        true,
+        output.len() == sizes::prepared_length(nk, order),
+        tape.len(),
+        needs::schedule_need(nk, order),
+    );
+    let Answer::Taken(_) = answer else {
+        return answer;
+    };
+    Answer::Taken(schedule::expansion::expand_core(nk, order, key, tape, output))
+}
+
+// An encryption from prepared keys: the rounds with whatever these hold as round keys.
+pub fn encrypt_prepared(
+    order: usize,
+    prepared: &[u8],
+    input: &[u8],
+    tape: &[u8],
+    output: &mut [u8],
+) -> Answer
+    ensures { λ r. ⌜ outcome r (now (output .exit)) ≡ Encrypt-prepared-outcome order (now (prepared .entry)) (now (input .entry)) (now (tape .entry)) (now (output .entry)) ⌝ }
+{
+    if shares::answers::unserved(order) {
+        return Answer::Refused(Refusal::Order);
+    }
+    let nk = sizes::prepared_words(order, prepared.len());
+    if nk == 0 {
+        return Answer::Refused(Refusal::Key);
+    }
+    let block = (order + 1) * 16;
+    let answer = shares::answers::checked(
+        true,
+        input.len() == block,
+        output.len() == block,
+        tape.len(),
+        needs::rounds_need(nk, order),
+    );
+    let Answer::Taken(_) = answer else {
+        return answer;
+    };
+    Answer::Taken(crate::rounds::rounds_core(nk, order, prepared, input, tape, output))
+}
