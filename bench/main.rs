@@ -1,47 +1,12 @@
-//! Times the library against the yardstick, in one run and in turns, and prints ratios. Both encrypt the same blocks, and their outputs are compared.
+//! Times the library against the yardstick, and prepared keys against single calls, each pair in one run and in turns, and prints ratios. Both of a
+//! pair encrypt the same blocks, and their outputs are compared.
 
+mod library;
 mod plain;
+mod prepared;
 
 use std::hint::black_box;
 use std::time::Instant;
-
-extern "C" {
-    #[allow(clippy::too_many_arguments)]
-    fn dokkumel_encrypt(
-        order: usize,
-        key: *const u8,
-        key_len: usize,
-        input: *const u8,
-        input_len: usize,
-        tape: *const u8,
-        tape_len: usize,
-        output: *mut u8,
-        output_len: usize,
-        taken: *mut usize,
-    ) -> u32;
-}
-
-/// The library's encryption; all lengths fit.
-fn library(order: usize, key: &[u8], input: &[u8], tape: &[u8], output: &mut [u8]) -> usize {
-    let mut taken = 0;
-    // The five buffers are live slices, and the library writes to output and taken only.
-    let status = unsafe {
-        dokkumel_encrypt(
-            order,
-            key.as_ptr(),
-            key.len(),
-            input.as_ptr(),
-            input.len(),
-            tape.as_ptr(),
-            tape.len(),
-            output.as_mut_ptr(),
-            output.len(),
-            &mut taken,
-        )
-    };
-    assert_eq!(status, 0, "refused");
-    taken
-}
 
 /// Bytes that look random, the same in every run.
 fn noise(seed: u64, len: usize) -> Vec<u8> {
@@ -77,7 +42,7 @@ fn compare(count: usize, order: usize) -> (f64, f64) {
     let tape = noise(3, 200 * (2 * order * order + 4 * order));
     let (mut ours, mut theirs) = (f64::MAX, f64::MAX);
     for _ in 0..5 {
-        let (a, x) = timed(library, count, order, &key, &block, &tape);
+        let (a, x) = timed(library::encrypt, count, order, &key, &block, &tape);
         let (b, y) = timed(plain::encrypt, count, order, &key, &block, &tape);
         assert_eq!(x, y, "the outputs differ at order {order}");
         ours = ours.min(a);
@@ -92,4 +57,5 @@ fn main() {
         let (ours, theirs) = compare(count, order);
         println!("order {order}, {count:5} encryptions: {ours:.3} s, {theirs:.3} s, ratio {:.2}", ours / theirs);
     }
+    prepared::print();
 }

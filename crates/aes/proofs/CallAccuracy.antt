@@ -16,7 +16,7 @@ use Rattle.shares.proofs.OutcomeLaws.{guarded-inverse, guarded-fits}
 use Rattle.shares.proofs.StringsLaws.{laid-length, shared-parts}
 use Rattle.cipher.specs.Fips197.{rounds, key-expansion, cipher-with, cipher}
 use Rattle.cipher.specs.Cipher.{schedule-need, prepared-laid, encrypted-with-need, encrypted-with-laid, cipher-need, encrypted-laid}
-use Rattle.cipher.proofs.Accuracy.{schedule-shared, encrypted-with-shared, encrypted-shared, prepared-joins-laid, encrypted-with-joins-laid, cipher-joins-laid, encrypted-from-prepared}
+use Rattle.cipher.proofs.Accuracy.{schedule-shared, encrypted-with-shared, prepared-joins-laid, encrypted-with-joins-laid, cipher-joins-laid, encrypted-from-prepared}
 use Rattle.aes.specs.Calls.{key-words, prepared-length, prepared-words, Encrypt-outcome, Prepare-outcome, Encrypt-prepared-outcome, after}
 use Rattle.aes.proofs.CallsLaws.{key-sized, key-length, prepared-long, prepared-words-of}
 
@@ -38,11 +38,9 @@ length-encrypted-with nk d ks x ts lk lx =
 
 length-encrypted : (nk d : ℕ) (k x ts : List ℕ) → 1 ≤ nk → length k ≡ (d + 1) * (4 * nk) → length x ≡ (d + 1) * 16
     → length (encrypted-laid nk d k x ts) ≡ (d + 1) * 16
-unfolding encrypted-laid
+unfolding prepared-length
 length-encrypted nk d k x ts h lk lx =
-    let lk′ = rw add-one at lk in
-    let lx′ = rw add-one at lx in
-    rw add-one (laid-length (encrypted-shared nk ts h (shared-parts d (4 * nk) k (omega arith)) (shared-parts d 16 x (omega arith))))
+    ap length (sym (encrypted-from-prepared nk d k x ts h lk)) ∙ length-encrypted-with nk d (prepared-laid nk d k ts) x (drop (schedule-need nk d) ts) (length-prepared nk d k ts h lk) lx
 
 sixteen : (n : ℕ) → share-length n (n * 16) ≡ 16
 unfolding share-length
