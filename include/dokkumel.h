@@ -20,7 +20,8 @@
  *
  *   0   the call was carried through; output is written, and *taken is set
  *   1   order is 0 or above 8
- *   2   key share length isn't n * 16, n * 24 or n * 32
+ *   2   key share length isn't n * 16, n * 24 or n * 32 (prepared keys:
+ *       n * 176, n * 208 or n * 240)
  *   3   an input's length doesn't fit
  *   4   output length isn't the one required
  *   5   tape shorter than the call needs
@@ -68,7 +69,8 @@ extern "C" {
 
 #define DOKKUMEL_OK               0
 #define DOKKUMEL_REFUSED_ORDER    1 /* order is 0 or above 8 */
-#define DOKKUMEL_REFUSED_KEY      2 /* key share length isn't n * 16, n * 24 or n * 32 */
+#define DOKKUMEL_REFUSED_KEY      2 /* key share length isn't n * 16, n * 24 or n * 32
+                                       (prepared keys: n * 176, n * 208 or n * 240) */
 #define DOKKUMEL_REFUSED_INPUT    3 /* an input's length doesn't fit */
 #define DOKKUMEL_REFUSED_OUTPUT   4 /* output length isn't the one required */
 #define DOKKUMEL_REFUSED_TAPE     5 /* tape shorter than the call needs */
@@ -90,6 +92,14 @@ extern "C" {
 #define DOKKUMEL_SHARED(order, bytes) \
 	(DOKKUMEL_SHARES(order) * (bytes))
 
+/* Nr, the number of rounds; key_bytes is 16, 24 or 32 here and below. */
+#define DOKKUMEL_ROUNDS(key_bytes) \
+	((key_bytes) / 4 + 6)
+
+/* Length of prepared keys: Nr + 1 round keys of 16 bytes, in shares. */
+#define DOKKUMEL_PREPARED(order, key_bytes) \
+	DOKKUMEL_SHARED(order, 16 * (DOKKUMEL_ROUNDS(key_bytes) + 1))
+
 /* P(d), the number of places in one product. */
 #define DOKKUMEL_PLACES(order) \
 	(2 * DOKKUMEL_SHARES(order) + 5 * DOKKUMEL_PRODUCT_TAPE(order) \
@@ -103,10 +113,18 @@ extern "C" {
 #define DOKKUMEL_SBOX_TAPE(order)          (2 * (order) * (order) + 4 * (order))
 #define DOKKUMEL_ENCRYPT_TAPE(order, key_bytes) \
 	(DOKKUMEL_SBOXES(key_bytes) * DOKKUMEL_SBOX_TAPE(order))
+#define DOKKUMEL_PREPARE_TAPE(order, key_bytes) \
+	(DOKKUMEL_KEY_SBOXES(key_bytes) * DOKKUMEL_SBOX_TAPE(order))
+#define DOKKUMEL_ENCRYPT_PREPARED_TAPE(order, key_bytes) \
+	(DOKKUMEL_ROUND_SBOXES(key_bytes) * DOKKUMEL_SBOX_TAPE(order))
 
-/* S-boxes of a whole encryption; key_bytes is 16, 24 or 32. */
+/* S-boxes of the key expansion, of all rounds, and of a whole encryption. */
+#define DOKKUMEL_KEY_SBOXES(key_bytes) \
+	((key_bytes) == 16 ? 40 : (key_bytes) == 24 ? 32 : 52)
+#define DOKKUMEL_ROUND_SBOXES(key_bytes) \
+	(16 * DOKKUMEL_ROUNDS(key_bytes))
 #define DOKKUMEL_SBOXES(key_bytes) \
-	((key_bytes) == 16 ? 200 : (key_bytes) == 24 ? 224 : 276)
+	(DOKKUMEL_KEY_SBOXES(key_bytes) + DOKKUMEL_ROUND_SBOXES(key_bytes))
 
 /*
  * Split a string into shares. Shares 1 to d are tape bytes, in turn; share 0
@@ -232,7 +250,8 @@ uint32_t dokkumel_sbox(size_t order,
 
 /*
  * Masked AES encryption of one block: key, block and ciphertext in shares.
- * The key schedule is computed anew in each call, and draws first.
+ * The key schedule is computed anew in each call, and draws first. For many
+ * blocks under one key, dokkumel_prepare() computes it once.
  *
  *   key      n * 16, n * 24 or n * 32 bytes
  *   input    n * 16 bytes
@@ -243,6 +262,54 @@ uint32_t dokkumel_sbox(size_t order,
  */
 uint32_t dokkumel_encrypt(size_t order,
 	const uint8_t *key, size_t key_len,
+	const uint8_t *input, size_t input_len,
+	const uint8_t *tape, size_t tape_len,
+	uint8_t *output, size_t output_len,
+	size_t *taken);
+
+/*
+ * Prepare a key: all its round keys in shares, computed once. Any number of
+ * blocks can then be encrypted by dokkumel_encrypt_prepared(), each call on
+ * fresh tape.
+ *
+ *   key      n * 16, n * 24 or n * 32 bytes
+ *   tape     takes DOKKUMEL_PREPARE_TAPE(order, 16), .. 24) or .. 32)
+ *   output   n * 176, n * 208 or n * 240 bytes, DOKKUMEL_PREPARED(order, 16),
+ *            .. 24) or .. 32)
+ *
+ * Prepared keys are laid out share after share over the whole schedule: share
+ * i of round key r starts at i * 16 * (Nr + 1) + 16 * r, where r is 0 to Nr,
+ * and Nr is 10, 12 or 14. They are as secret as the key itself.
+ *
+ * Refusals: 1, 2, 4, 5.
+ */
+uint32_t dokkumel_prepare(size_t order,
+	const uint8_t *key, size_t key_len,
+	const uint8_t *tape, size_t tape_len,
+	uint8_t *output, size_t output_len,
+	size_t *taken);
+
+/*
+ * Masked AES encryption of one block from prepared keys. It takes any bytes of
+ * a fitting length, and cannot tell whether they came from dokkumel_prepare():
+ * what they join to serves as the round keys. Their length decides the number
+ * of rounds. A key that was not prepared, or was prepared at another order,
+ * is refused with 2.
+ *
+ *   prepared    n * 176, n * 208 or n * 240 bytes, as from a key of 16, 24 or
+ *               32 bytes
+ *   input       n * 16 bytes
+ *   tape        takes DOKKUMEL_ENCRYPT_PREPARED_TAPE(order, 16), .. 24) or
+ *               .. 32)
+ *   output      n * 16 bytes
+ *
+ * dokkumel_prepare(), and then this call on the rest of the same tape, give
+ * the very shares of dokkumel_encrypt(), and take as much together.
+ *
+ * Refusals: 1, 2, 3, 4, 5.
+ */
+uint32_t dokkumel_encrypt_prepared(size_t order,
+	const uint8_t *prepared, size_t prepared_len,
 	const uint8_t *input, size_t input_len,
 	const uint8_t *tape, size_t tape_len,
 	uint8_t *output, size_t output_len,

@@ -2,8 +2,9 @@
 
 #include "dokkumel.h"
 #include "guarded.h"
-#include "openssl.h"
+#include "joined.h"
 #include "plan.h"
+#include "routes.h"
 #include "second.h"
 #include "table.h"
 
@@ -30,6 +31,8 @@ static const char *const buffer_names[BUFFERS] = { "key", "input", "right", "tap
 		case READ: return by##_read_places(c->order, B(INPUT), B(RIGHT), B(TAPE), PLACES, B(OUTPUT), TOOK); \
 		case SBOX: return by##_sbox(c->order, B(INPUT), B(TAPE), B(OUTPUT), TOOK);                        \
 		case ENCRYPT: return by##_encrypt(c->order, B(KEY), B(INPUT), B(TAPE), B(OUTPUT), TOOK);          \
+		case PREPARE: return by##_prepare(c->order, B(KEY), B(TAPE), B(OUTPUT), TOOK);                    \
+		case ENCRYPT_PREPARED: return by##_encrypt_prepared(c->order, B(KEY), B(INPUT), B(TAPE), B(OUTPUT), TOOK); \
 		default: *TOOK = by##_unused_tape(B(TAPE), c->count); return 0;                                   \
 		}                                                                                                 \
 	}
@@ -60,25 +63,25 @@ static void same(const struct plan *c, int b, const struct guarded *g, const uin
 	exit(1);
 }
 
-/* The joined ciphertext against an unrelated AES. */
-static void compare_unrelated(const struct plan *c, const struct guarded *g)
+/* What the output joins to, and for an encryption the other route. */
+static void compare_joined(const struct plan *c, const struct guarded *g)
 {
-	size_t n = c->order + 1, key_len = c->len[KEY] / n;
-	uint8_t key[32] = { 0 }, block[16] = { 0 }, made[16] = { 0 }, want[16];
+	struct joined j;
+	const char *differs;
 
-	for (size_t k = 0; k < c->len[KEY]; k++)
-		key[k % key_len] ^= g[KEY].before[k];
-	for (size_t k = 0; k < 16 * n; k++) {
-		block[k % 16] ^= g[INPUT].before[k];
-		made[k % 16] ^= g[OUTPUT].lent[k];
-	}
-	openssl_encrypt(key, key_len, block, want);
-	for (size_t k = 0; k < 16; k++) {
-		if (made[k] != want[k]) {
+	joined_make(&j, c, g);
+	for (size_t k = 0; k < j.len; k++) {
+		if (j.made[k] != j.want[k]) {
 			fail_at(c);
-			printf("joined ciphertext byte %zu is %02x, OpenSSL's %02x\n", k, made[k], want[k]);
+			printf("joined output byte %zu is %02x, %s %02x\n", k, j.made[k], j.whose, j.want[k]);
 			exit(1);
 		}
+	}
+	differs = c->routine == ENCRYPT ? routes_differ(c, g) : NULL;
+	if (differs != NULL) {
+		fail_at(c);
+		puts(differs);
+		exit(1);
 	}
 }
 
@@ -103,8 +106,8 @@ static void compare(const struct plan *c, struct guarded *g)
 			same(c, b, &g[b], g[b].lent, g[b].before, "before the call");
 		same(c, b, &g[b], g[b].lent, g[b].second, "the second's");
 	}
-	if (status == 0 && c->routine == ENCRYPT)
-		compare_unrelated(c, g);
+	if (status == 0 && plan_key_bytes(c) != 0)
+		compare_joined(c, g);
 	table_count(c, status);
 }
 

@@ -100,14 +100,11 @@ static void mix_columns(uint8_t *s)
 	}
 }
 
-void step_encrypt(size_t d, size_t words, const uint8_t *key, const uint8_t *block, struct tape *t, uint8_t *out)
+static void all_rounds(size_t d, size_t rounds, schedule_t w, const uint8_t *block, struct tape *t, uint8_t *out)
 {
-	schedule_t w;
 	state_t state;
-	size_t rounds = words + 6;
 
 	memcpy(state, block, 16 * (d + 1));
-	expand_key(d, words, key, t, w);
 	add_round_key(d, state, w, 0);
 	for (size_t round = 1; round <= rounds; round++) {
 		sub_bytes(d, state, t);
@@ -118,4 +115,38 @@ void step_encrypt(size_t d, size_t words, const uint8_t *key, const uint8_t *blo
 		add_round_key(d, state, w, round);
 	}
 	memcpy(out, state, 16 * (d + 1));
+}
+
+void step_encrypt(size_t d, size_t words, const uint8_t *key, const uint8_t *block, struct tape *t, uint8_t *out)
+{
+	schedule_t w;
+
+	expand_key(d, words, key, t, w);
+	all_rounds(d, words + 6, w, block, t, out);
+}
+
+/* Bytes of all round keys: one of 16 bytes for each round, and the one that is added first. */
+static size_t schedule_length(size_t words)
+{
+	return 16 * (words + 6 + 1);
+}
+
+void step_prepare(size_t d, size_t words, const uint8_t *key, struct tape *t, uint8_t *prepared)
+{
+	size_t each = schedule_length(words);
+	schedule_t w;
+
+	expand_key(d, words, key, t, w);
+	for (size_t s = 0; s <= d; s++)
+		memcpy(prepared + s * each, w[s], each);
+}
+
+void step_encrypt_prepared(size_t d, size_t words, const uint8_t *prepared, const uint8_t *block, struct tape *t, uint8_t *out)
+{
+	size_t each = schedule_length(words);
+	schedule_t w;
+
+	for (size_t s = 0; s <= d; s++)
+		memcpy(w[s], prepared + s * each, each);
+	all_rounds(d, words + 6, w, block, t, out);
 }

@@ -2,14 +2,26 @@
 #ifndef KNOWN_H
 #define KNOWN_H
 
+#include <stddef.h>
+#include <stdint.h>
+
 /* Each ends the program unless it holds. */
 void known_is(int good, const char *what);
 
-/* FIPS 197's examples of encryption, at orders 1, 2, 3 and 8, on several tapes. */
+/* Ends the program unless good answers 1 for example e at orders 1, 2, 3 and 8, each on several tapes. */
+void known_on_tapes(const char *name, size_t e, int (*good)(size_t e, size_t d, const uint8_t *tape, size_t tape_len));
+
+/* FIPS 197's examples of encryption, by the single call and from prepared keys. */
 void known_published(void);
+
+/* FIPS 197's examples of key expansion, as what prepared keys join to. */
+void known_round_keys(void);
 
 /* Document 01's small values and edges. */
 void known_small(void);
+
+/* The refusals of prepare and encrypt_prepared, in their order and at every length. */
+void known_prepared(void);
 
 /* The header's macros: just so much is served, and a byte more or less refused. */
 void known_macros(void);

@@ -5,7 +5,7 @@
 
 #include <stdio.h>
 
-/* Document 01's tables. */
+/* Document 01's tables, and document 02's numbers for prepared keys. */
 _Static_assert(DOKKUMEL_PLACES(1) == 13 && DOKKUMEL_PLACES(2) == 30 && DOKKUMEL_PLACES(3) == 54, "P(1) to P(3)");
 _Static_assert(DOKKUMEL_PLACES(8) == 279, "P(8)");
 _Static_assert(DOKKUMEL_ENCRYPT_TAPE(1, 16) == 1200 && DOKKUMEL_ENCRYPT_TAPE(2, 16) == 3200, "16-byte keys");
@@ -13,13 +13,23 @@ _Static_assert(DOKKUMEL_ENCRYPT_TAPE(1, 24) == 1344 && DOKKUMEL_ENCRYPT_TAPE(2, 
 _Static_assert(DOKKUMEL_ENCRYPT_TAPE(1, 32) == 1656 && DOKKUMEL_ENCRYPT_TAPE(2, 32) == 4416, "32-byte keys");
 _Static_assert(DOKKUMEL_ENCRYPT_TAPE(8, 16) == 32000 && DOKKUMEL_ENCRYPT_TAPE(8, 24) == 35840, "order 8");
 _Static_assert(DOKKUMEL_ENCRYPT_TAPE(8, 32) == 44160, "order 8");
+_Static_assert(DOKKUMEL_ROUNDS(16) == 10 && DOKKUMEL_ROUNDS(24) == 12 && DOKKUMEL_ROUNDS(32) == 14, "rounds");
+_Static_assert(DOKKUMEL_KEY_SBOXES(16) == 40 && DOKKUMEL_KEY_SBOXES(24) == 32 && DOKKUMEL_KEY_SBOXES(32) == 52, "S-boxes");
+_Static_assert(DOKKUMEL_ROUND_SBOXES(16) == 160 && DOKKUMEL_ROUND_SBOXES(24) == 192 && DOKKUMEL_ROUND_SBOXES(32) == 224, "S-boxes");
+_Static_assert(DOKKUMEL_SBOXES(16) == 200 && DOKKUMEL_SBOXES(24) == 224 && DOKKUMEL_SBOXES(32) == 276, "S-boxes");
+_Static_assert(DOKKUMEL_PREPARED(1, 16) == 352 && DOKKUMEL_PREPARED(2, 24) == 624 && DOKKUMEL_PREPARED(8, 32) == 2160, "prepared keys");
+_Static_assert(DOKKUMEL_PREPARE_TAPE(1, 16) == 240 && DOKKUMEL_PREPARE_TAPE(2, 24) == 512, "preparing");
+_Static_assert(DOKKUMEL_PREPARE_TAPE(8, 32) == 8320 && DOKKUMEL_ENCRYPT_PREPARED_TAPE(8, 32) == 35840, "order 8");
+_Static_assert(DOKKUMEL_ENCRYPT_PREPARED_TAPE(1, 16) == 960 && DOKKUMEL_ENCRYPT_PREPARED_TAPE(2, 24) == 3072, "from prepared keys");
 /* An argument that is a sum. */
 _Static_assert(DOKKUMEL_ENCRYPT_TAPE(1 + 1, 8 + 8) == 3200 && DOKKUMEL_PLACES(1 + 2) == 54, "brackets");
 _Static_assert(DOKKUMEL_SHARED(1 + 1, 8 + 8) == 48 && DOKKUMEL_SPLIT_TAPE(1 + 1, 8 + 8) == 32, "brackets");
 _Static_assert(2 * DOKKUMEL_REFRESH_TAPE(1 + 1) == 4 && 2 * DOKKUMEL_PRODUCT_TAPE(1 + 1) == 6, "brackets");
+_Static_assert(DOKKUMEL_PREPARED(1 + 1, 8 + 8) == 528 && 2 * DOKKUMEL_ROUNDS(8 + 8) == 20, "brackets");
+_Static_assert(DOKKUMEL_PREPARE_TAPE(1 + 1, 8 + 8) == 640 && DOKKUMEL_ENCRYPT_PREPARED_TAPE(1 + 1, 8 + 8) == 2560, "brackets");
 
 static const uint8_t zeros[DOKKUMEL_ENCRYPT_TAPE(8, 32)];
-static uint8_t out[DOKKUMEL_PLACES(8) + 1 + DOKKUMEL_SHARED(8, 32)];
+static uint8_t out[DOKKUMEL_PREPARED(8, 32) + 1];
 
 static void is(int good, const char *name, size_t d, size_t bytes)
 {
@@ -68,6 +78,22 @@ static void of_strings(size_t d, size_t l)
 	is(dokkumel_encrypt(d, zeros, shared, zeros, block, zeros, need - 1, out, block, &taken) == 5, "DOKKUMEL_ENCRYPT_TAPE", d, l);
 }
 
+static void of_prepared(size_t d, size_t l)
+{
+	size_t shared = DOKKUMEL_SHARED(d, l), prepared = DOKKUMEL_PREPARED(d, l), block = DOKKUMEL_SHARED(d, 16), taken = 0;
+	size_t need = DOKKUMEL_PREPARE_TAPE(d, l);
+
+	is(dokkumel_prepare(d, zeros, shared, zeros, need, out, prepared, &taken) == 0 && taken == need, "DOKKUMEL_PREPARE_TAPE", d, l);
+	is(dokkumel_prepare(d, zeros, shared, zeros, need - 1, out, prepared, &taken) == 5, "DOKKUMEL_PREPARE_TAPE", d, l);
+	is(dokkumel_prepare(d, zeros, shared, zeros, need, out, prepared + 1, &taken) == 4, "DOKKUMEL_PREPARED", d, l);
+	need = DOKKUMEL_ENCRYPT_PREPARED_TAPE(d, l);
+	is(dokkumel_encrypt_prepared(d, zeros, prepared, zeros, block, zeros, need, out, block, &taken) == 0 && taken == need,
+		"DOKKUMEL_ENCRYPT_PREPARED_TAPE", d, l);
+	is(dokkumel_encrypt_prepared(d, zeros, prepared, zeros, block, zeros, need - 1, out, block, &taken) == 5,
+		"DOKKUMEL_ENCRYPT_PREPARED_TAPE", d, l);
+	is(dokkumel_encrypt_prepared(d, zeros, prepared + 1, zeros, block, zeros, need, out, block, &taken) == 2, "DOKKUMEL_PREPARED", d, l);
+}
+
 void known_macros(void)
 {
 	size_t taken = 0;
@@ -75,8 +101,10 @@ void known_macros(void)
 	for (size_t d = 1; d <= DOKKUMEL_MAX_ORDER; d++) {
 		of_bytes(d);
 		of_places(d);
-		for (size_t l = 16; l <= 32; l += 8)
+		for (size_t l = 16; l <= 32; l += 8) {
 			of_strings(d, l);
+			of_prepared(d, l);
+		}
 	}
 	is(dokkumel_refresh(DOKKUMEL_MAX_ORDER + 1, zeros, 10, zeros, 9, out, 10, &taken) == DOKKUMEL_REFUSED_ORDER,
 		"DOKKUMEL_MAX_ORDER", DOKKUMEL_MAX_ORDER, 1);

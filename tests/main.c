@@ -30,13 +30,16 @@ static uint64_t fresh_seed(void)
 int main(int argc, char **argv)
 {
 	uint64_t seed = argc > 1 ? strtoull(argv[1], NULL, 0) : fresh_seed();
-	unsigned long calls = argc > 2 ? strtoul(argv[2], NULL, 0) : 27000;
+	unsigned long calls = argc > 2 ? strtoul(argv[2], NULL, 0) : 33000;
 
 	setvbuf(stdout, NULL, _IOLBF, 0);
 	known_published();
-	puts("FIPS 197's examples at orders 1, 2, 3 and 8: as printed");
+	known_round_keys();
+	puts("FIPS 197's examples at orders 1, 2, 3 and 8, by either route, and its round keys: as printed");
 	known_small();
 	puts("document 01's small values and edges: as told");
+	known_prepared();
+	puts("refusals of prepare and encrypt_prepared: in their order, and at every length");
 	known_macros();
 	puts("the header's macros: exact");
 	calls_try_guards();

@@ -1,6 +1,7 @@
 #include "plan.h"
 
 #include "dokkumel.h"
+#include "lengths.h"
 
 #include <string.h>
 
@@ -19,6 +20,8 @@ static const unsigned possible[ROUTINES] = {
 	[READ] = ONE_INPUT | BIT(BAD_RIGHT) | BIT(BAD_LIST) | BIT(BAD_PLACE),
 	[SBOX] = ONE_INPUT,
 	[ENCRYPT] = ONE_INPUT | BIT(BAD_KEY),
+	[PREPARE] = (ONE_INPUT & ~BIT(BAD_INPUT)) | BIT(BAD_KEY),
+	[ENCRYPT_PREPARED] = ONE_INPUT | BIT(BAD_KEY),
 	[UNUSED] = 0,
 };
 
@@ -51,50 +54,6 @@ static size_t unserved_order(struct noise *n)
 	return orders[noise_below(n, sizeof orders / sizeof orders[0])];
 }
 
-/* Lengths that fit at order d, with strings of l bytes; the tape is as long as the call needs. A reading's list comes later. */
-static void fit(struct plan *p, size_t d, size_t l)
-{
-	size_t n = DOKKUMEL_SHARES(d), *len = p->len;
-
-	switch (p->routine) {
-	case SPLIT:
-		len[INPUT] = l, len[OUTPUT] = DOKKUMEL_SHARED(d, l), len[TAPE] = DOKKUMEL_SPLIT_TAPE(d, l);
-		break;
-	case JOIN:
-		len[INPUT] = DOKKUMEL_SHARED(d, l), len[OUTPUT] = l;
-		break;
-	case REFRESH:
-		len[INPUT] = len[OUTPUT] = n, len[TAPE] = DOKKUMEL_REFRESH_TAPE(d);
-		break;
-	case PRODUCT:
-	case SHEET:
-	case READ:
-		len[INPUT] = len[RIGHT] = n, len[TAPE] = DOKKUMEL_PRODUCT_TAPE(d);
-		len[OUTPUT] = p->routine == SHEET ? DOKKUMEL_PLACES(d) : n;
-		break;
-	case SBOX:
-		len[INPUT] = len[OUTPUT] = n, len[TAPE] = DOKKUMEL_SBOX_TAPE(d);
-		break;
-	case ENCRYPT:
-		len[KEY] = DOKKUMEL_SHARED(d, l), len[INPUT] = len[OUTPUT] = DOKKUMEL_SHARED(d, 16);
-		len[TAPE] = DOKKUMEL_ENCRYPT_TAPE(d, l);
-		break;
-	default:
-		len[TAPE] = l;
-		break;
-	}
-}
-
-/* The lengths that the order itself would ask for if its numbers wrapped, where these are small. */
-static void wrap(struct plan *p, size_t l)
-{
-	int strings = p->routine == SPLIT || p->routine == JOIN || p->routine == ENCRYPT;
-	size_t shared = DOKKUMEL_SHARED(p->order, strings ? l : 1);
-
-	if (shared < 1000)
-		p->len[KEY] = p->len[INPUT] = p->len[RIGHT] = p->len[OUTPUT] = shared;
-}
-
 /* Another length: off by one, empty, another key's, double, or any. */
 static size_t bend(struct noise *n, size_t len)
 {
@@ -112,6 +71,23 @@ static size_t bend(struct noise *n, size_t len)
 		return len * 2;
 	default:
 		return noise_below(n, 300);
+	}
+}
+
+/* Another length for a key: some size's, as it is or prepared, or prepared at another order; or any. */
+static size_t bend_key(struct noise *n, size_t len, size_t d)
+{
+	size_t l = 16 + 8 * noise_below(n, 3), other = 1 + noise_below(n, DOKKUMEL_MAX_ORDER);
+
+	switch (noise_below(n, 6)) {
+	case 0:
+		return DOKKUMEL_SHARED(d, l);
+	case 1:
+		return DOKKUMEL_PREPARED(d, l);
+	case 2:
+		return DOKKUMEL_PREPARED(other, l);
+	default:
+		return bend(n, len);
 	}
 }
 
@@ -165,13 +141,13 @@ void plan_make(struct plan *p, struct noise *n)
 	p->order = faults & BIT(BAD_ORDER) ? unserved_order(n) : 1 + noise_below(n, DOKKUMEL_MAX_ORDER);
 	/* an order above 9 has the lengths of some order from 0 to 9; one up to 9 mostly has its own */
 	d = p->order <= 9 && noise_below(n, 64) != 0 ? p->order : noise_below(n, 10);
-	fit(p, d, l);
+	lengths_fit(p, d, l);
 	if (p->order > 9 && noise_below(n, 4) == 0)
-		wrap(p, l);
+		lengths_wrap(p, l);
 	if (p->routine == READ)
 		fill_list(p, n, d, faults);
 	if (faults & BIT(BAD_KEY))
-		p->len[KEY] = bend(n, p->len[KEY]);
+		p->len[KEY] = bend_key(n, p->len[KEY], d);
 	if (faults & BIT(BAD_INPUT))
 		p->len[INPUT] = bend(n, p->len[INPUT]);
 	if (faults & BIT(BAD_RIGHT))
@@ -183,4 +159,11 @@ void plan_make(struct plan *p, struct noise *n)
 	if (p->routine == UNUSED)
 		p->count = choose_count(n, p->len[TAPE]);
 	p->len[TAKEN] = sizeof(size_t);
+}
+
+size_t plan_key_bytes(const struct plan *p)
+{
+	size_t share = p->len[KEY] / (p->order + 1);
+
+	return p->routine == ENCRYPT_PREPARED ? 4 * (share / 16 - 7) : share;
 }

@@ -7,9 +7,9 @@
 
 #include "noise.h"
 
-enum routine { SPLIT, JOIN, REFRESH, PRODUCT, SHEET, READ, SBOX, ENCRYPT, UNUSED, ROUTINES };
+enum routine { SPLIT, JOIN, REFRESH, PRODUCT, SHEET, READ, SBOX, ENCRYPT, PREPARE, ENCRYPT_PREPARED, UNUSED, ROUTINES };
 
-/* INPUT is also the left factor. */
+/* INPUT is also the left factor, KEY also prepared keys. */
 enum buffer { KEY, INPUT, RIGHT, TAPE, LIST, OUTPUT, TAKEN, BUFFERS };
 
 #define MAX_LIST 64
@@ -24,5 +24,8 @@ struct plan {
 
 /* Half of the plans fit; the others have one to three things that may not. */
 void plan_make(struct plan *p, struct noise *n);
+
+/* Of a call that was carried through: 16, 24 or 32 for its key's size, prepared or not; 0 if the routine takes no key. */
+size_t plan_key_bytes(const struct plan *p);
 
 #endif

@@ -1,8 +1,7 @@
-/* FIPS 197's examples of encryption, through splitting, encryption and joining. */
+/* FIPS 197's examples of encryption, through splitting, encryption by either route, and joining. */
 #include "known.h"
 
 #include "dokkumel.h"
-#include "noise.h"
 
 #include <stdio.h>
 #include <string.h>
@@ -31,45 +30,86 @@ static const struct {
 		{ 0x8e, 0xa2, 0xb7, 0xca, 0x51, 0x67, 0x45, 0xbf, 0xea, 0xfc, 0x49, 0x90, 0x4b, 0x49, 0x60, 0x89 } },
 };
 
-/* Example e at order d; the three calls draw from one tape, one after the other. */
-static int as_printed(size_t e, size_t d, const uint8_t *tape, size_t tape_len)
-{
-	uint8_t key[DOKKUMEL_SHARED(8, 32)] = { 0 }, block[DOKKUMEL_SHARED(8, 16)] = { 0 }, out[DOKKUMEL_SHARED(8, 16)] = { 0 };
-	uint8_t joined[16] = { 0 };
-	size_t key_len = DOKKUMEL_SHARED(d, examples[e].key_len), block_len = DOKKUMEL_SHARED(d, 16), at = 0, taken = 0;
+/* An example in shares, and what is left of the tape. */
+struct shared {
+	size_t d, key_bytes, key_len, block_len;
+	uint8_t key[DOKKUMEL_SHARED(8, 32)], block[DOKKUMEL_SHARED(8, 16)];
+	const uint8_t *tape;
+	size_t tape_len;
+};
 
-	if (dokkumel_split(d, examples[e].key, examples[e].key_len, tape, tape_len, key, key_len, &taken) != DOKKUMEL_OK)
+static void move_on(struct shared *s, size_t taken)
+{
+	size_t at = dokkumel_unused_tape(s->tape, s->tape_len, taken);
+
+	s->tape += at;
+	s->tape_len -= at;
+}
+
+static int split(struct shared *s, size_t e, size_t d, const uint8_t *tape, size_t tape_len)
+{
+	size_t key_bytes = examples[e].key_len, taken = 0;
+
+	*s = (struct shared){ .d = d, .key_bytes = key_bytes, .key_len = DOKKUMEL_SHARED(d, key_bytes),
+		.block_len = DOKKUMEL_SHARED(d, 16), .tape = tape, .tape_len = tape_len };
+	if (dokkumel_split(d, examples[e].key, key_bytes, s->tape, s->tape_len, s->key, s->key_len, &taken) != DOKKUMEL_OK)
 		return 0;
-	at += dokkumel_unused_tape(tape + at, tape_len - at, taken);
-	if (dokkumel_split(d, examples[e].block, 16, tape + at, tape_len - at, block, block_len, &taken) != DOKKUMEL_OK)
+	move_on(s, taken);
+	if (dokkumel_split(d, examples[e].block, 16, s->tape, s->tape_len, s->block, s->block_len, &taken) != DOKKUMEL_OK)
 		return 0;
-	at += dokkumel_unused_tape(tape + at, tape_len - at, taken);
-	if (dokkumel_encrypt(d, key, key_len, block, block_len, tape + at, tape_len - at, out, block_len, &taken) != DOKKUMEL_OK)
+	move_on(s, taken);
+	return 1;
+}
+
+static int as_printed(const struct shared *s, size_t e, const uint8_t *output)
+{
+	uint8_t joined[16] = { 0 };
+	size_t taken = 1;
+
+	return dokkumel_join(s->d, output, s->block_len, joined, 16, &taken) == DOKKUMEL_OK && taken == 0
+		&& memcmp(joined, examples[e].want, 16) == 0;
+}
+
+static int by_single_call(size_t e, size_t d, const uint8_t *tape, size_t tape_len)
+{
+	uint8_t output[DOKKUMEL_SHARED(8, 16)] = { 0 };
+	struct shared s;
+	size_t taken = 0;
+
+	return split(&s, e, d, tape, tape_len)
+		&& dokkumel_encrypt(d, s.key, s.key_len, s.block, s.block_len, s.tape, s.tape_len, output, s.block_len, &taken) == DOKKUMEL_OK
+		&& taken == (size_t)DOKKUMEL_ENCRYPT_TAPE(d, s.key_bytes) && as_printed(&s, e, output);
+}
+
+/* Prepared once, and encrypted from twice. */
+static int by_prepared_keys(size_t e, size_t d, const uint8_t *tape, size_t tape_len)
+{
+	uint8_t prepared[DOKKUMEL_PREPARED(8, 32)] = { 0 }, output[DOKKUMEL_SHARED(8, 16)] = { 0 };
+	size_t prepared_len = DOKKUMEL_PREPARED(d, examples[e].key_len), taken = 0;
+	struct shared s;
+
+	if (!split(&s, e, d, tape, tape_len)
+		|| dokkumel_prepare(d, s.key, s.key_len, s.tape, s.tape_len, prepared, prepared_len, &taken) != DOKKUMEL_OK
+		|| taken != (size_t)DOKKUMEL_PREPARE_TAPE(d, s.key_bytes))
 		return 0;
-	if (taken != (size_t)DOKKUMEL_ENCRYPT_TAPE(d, examples[e].key_len))
-		return 0;
-	if (dokkumel_join(d, out, block_len, joined, 16, &taken) != DOKKUMEL_OK || taken != 0)
-		return 0;
-	return memcmp(joined, examples[e].want, 16) == 0;
+	for (int turn = 0; turn < 2; turn++) {
+		move_on(&s, taken);
+		memset(output, 0, sizeof output);
+		if (dokkumel_encrypt_prepared(d, prepared, prepared_len, s.block, s.block_len, s.tape, s.tape_len,
+			output, s.block_len, &taken) != DOKKUMEL_OK
+			|| taken != (size_t)DOKKUMEL_ENCRYPT_PREPARED_TAPE(d, s.key_bytes) || !as_printed(&s, e, output))
+			return 0;
+	}
+	return 1;
 }
 
 void known_published(void)
 {
-	static const size_t orders[] = { 1, 2, 3, 8 };
-	static uint8_t tape[DOKKUMEL_ENCRYPT_TAPE(8, 32) + DOKKUMEL_SPLIT_TAPE(8, 32) + DOKKUMEL_SPLIT_TAPE(8, 16)];
-	struct noise n = { 197 };
-	char what[80];
+	char name[40];
 
 	for (size_t e = 0; e < sizeof examples / sizeof examples[0]; e++) {
-		for (size_t o = 0; o < sizeof orders / sizeof orders[0]; o++) {
-			for (int t = 0; t < 4; t++) {
-				/* a tape of zeros, one of ones, two random ones */
-				memset(tape, t == 0 ? 0 : 0xff, sizeof tape);
-				if (t > 1)
-					noise_fill(&n, tape, sizeof tape);
-				snprintf(what, sizeof what, "FIPS 197, %s, order %zu, tape %d", examples[e].name, orders[o], t);
-				known_is(as_printed(e, orders[o], tape, sizeof tape), what);
-			}
-		}
+		known_on_tapes(examples[e].name, e, by_single_call);
+		snprintf(name, sizeof name, "%s, from prepared keys", examples[e].name);
+		known_on_tapes(name, e, by_prepared_keys);
 	}
 }

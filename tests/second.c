@@ -169,29 +169,6 @@ uint32_t second_sbox(size_t order, const uint8_t *input, size_t input_len, const
 	return 0;
 }
 
-uint32_t second_encrypt(size_t order, const uint8_t *key, size_t key_len, const uint8_t *input, size_t input_len,
-	const uint8_t *tape, size_t tape_len, uint8_t *output, size_t output_len, size_t *taken)
-{
-	static const size_t sboxes[9] = { [4] = 40 + 160, [6] = 32 + 192, [8] = 52 + 224 };
-	struct tape t = { tape, 0 };
-	size_t words;
-
-	if (order < 1 || order > MAX_ORDER)
-		return 1;
-	words = share_length(key_len, order + 1) / 4;
-	if (words == 0)
-		return 2;
-	if (input_len != 16 * (order + 1))
-		return 3;
-	if (output_len != 16 * (order + 1))
-		return 4;
-	if (tape_len < sboxes[words] * (2 * order * order + 4 * order))
-		return 5;
-	step_encrypt(order, words, key, input, &t, output);
-	*taken = t.drawn;
-	return 0;
-}
-
 size_t second_unused_tape(const uint8_t *tape, size_t tape_len, size_t count)
 {
 	(void)tape;

@@ -33,4 +33,8 @@ void step_sbox(size_t d, uint8_t *x, struct tape *t);
 /* One block. Key, block and out are share after share; words is 4, 6 or 8. */
 void step_encrypt(size_t d, size_t words, const uint8_t *key, const uint8_t *block, struct tape *t, uint8_t *out);
 
+/* The round keys of a key, and one block from them. Prepared keys are share after share, each share a whole schedule. */
+void step_prepare(size_t d, size_t words, const uint8_t *key, struct tape *t, uint8_t *prepared);
+void step_encrypt_prepared(size_t d, size_t words, const uint8_t *prepared, const uint8_t *block, struct tape *t, uint8_t *out);
+
 #endif

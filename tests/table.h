@@ -10,7 +10,8 @@ extern const char *const routine_names[ROUTINES];
 
 void table_count(const struct plan *p, uint32_t status);
 
-/* Prints the table. Answers 0 if some outcome that a routine can have never came up, or an order or key length was never served. */
+/* Prints the table. Answers 0 if some outcome that a routine can have never came up, or an order or key length was never served,
+   or a length that only fits the other route, or another order, was never refused. */
 int table_print(void);
 
 #endif

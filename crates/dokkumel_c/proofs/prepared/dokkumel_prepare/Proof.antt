@@ -1,0 +1,20 @@
+-- `dokkumel_c::prepared::dokkumel_prepare` meets its contract. Assumes nothing.
+use borrow.Author.Needs.{needs}
+use Rattle.dokkumel_c.proofs.ReturnedLaws.{handed-on}
+use Rattle.dokkumel_c.proofs.prepared.dokkumel_prepare.Statement.{statement}
+use Rattle.dokkumel_c.proofs.prepared.dokkumel_prepare.Tie as tie
+
+prepare-requires : tie.Need-prepare-requires
+prepare-requires c κs = search needs
+
+give-requires : tie.Need-give-requires
+give-requires c κs = search needs
+
+same-length : tie.Need-same-length
+same-length c = search needs
+
+returns : tie.Need-returns
+returns c = handed-on _ (c .before .before .before .before .prepare .ensures) (c .give .ensures _)
+
+pub dokkumel-prepare-spec : {M : Type 1} → statement M
+dokkumel-prepare-spec = tie.close (tie.spec prepare-requires give-requires same-length returns)
