@@ -1,18 +1,20 @@
 -- What the commands call: the outcome of the library's routine on the bytes of the arguments. Assumes nothing: these are definitions.
--- Document 01 decides the routines.
+-- Documents 01 and 02 decide the routines.
 use mathlib.Core.List.{List}
 use Prim.Native.Nat.{ℕ}
 use Rattle.shares.specs.Outcome.{Outcome, refused}
 use Rattle.shares.specs.Calls.{Split-outcome, Join-outcome, Refresh-outcome}
 use Rattle.masking.specs.Calls.{Product-outcome}
 use Rattle.sbox.specs.Calls.{Box-outcome}
-use Rattle.aes.specs.Calls.{Encrypt-outcome}
+use Rattle.aes.specs.Calls.{Encrypt-outcome, Prepare-outcome, Encrypt-prepared-outcome}
 use Rattle.dokkumel.specs.declared.commands.Command.{Command}
-use Rattle.dokkumel.specs.declared.commands.Command.the-variants.{Encrypt, Split, Join, Refresh, Product, Sbox, Read, Sheet, Places, Tape, Help, Unknown}
+use Rattle.dokkumel.specs.declared.commands.Command.the-variants.{Encrypt, Prepare, EncryptPrepared, Split, Join, Refresh, Product, Sbox, Read, Sheet, Places, Tape, Help, Unknown}
 
 -- a command that calls no routine of this form never gets there; it stands as a refused order
 abbrev pub called : Command → (order : ℕ) (first second tape output : List ℕ) → Outcome
 called Encrypt d x y t o = Encrypt-outcome d x y t o
+called Prepare d x y t o = Prepare-outcome d x t o
+called EncryptPrepared d x y t o = Encrypt-prepared-outcome d x y t o
 called Split d x y t o = Split-outcome d x t o
 called Join d x y t o = Join-outcome d x o
 called Refresh d x y t o = Refresh-outcome d x t o

@@ -18,6 +18,16 @@ pub fn print_refused(r: Refusal) {
     }
 }
 
+// The same for a call on prepared keys, whose lengths document 02 adds to cause 2.
+fn print_refused_on_prepared(r: Refusal) {
+    match r {
+        Refusal::Key => text::print(
+            b"refused 2: prepared length isn't n\xc2\xb7176, n\xc2\xb7208 or n\xc2\xb7240\n",
+        ),
+        _ => print_refused(r),
+    }
+}
+
 pub fn print_taken(n: usize) {
     text::print_with(b"taken ", n);
     text::print(b"\n");
@@ -33,5 +43,13 @@ pub fn print(a: Answer, output: &[u8]) {
             print_taken(n)
         }
         Answer::Refused(r) => print_refused(r),
+    }
+}
+
+// The same of a call on prepared keys.
+pub fn print_on_prepared(a: Answer, output: &[u8]) {
+    match a {
+        Answer::Refused(r) => print_refused_on_prepared(r),
+        _ => print(a, output),
     }
 }

@@ -3,6 +3,8 @@ use crate::faults;
 
 pub enum Command {
     Encrypt,
+    Prepare,
+    EncryptPrepared,
     Split,
     Join,
     Refresh,
@@ -40,6 +42,12 @@ pub fn named(word: &[u8]) -> Command {
     if text::same(word, b"encrypt") {
         return Command::Encrypt;
     }
+    if text::same(word, b"prepare") {
+        return Command::Prepare;
+    }
+    if text::same(word, b"encrypt-prepared") {
+        return Command::EncryptPrepared;
+    }
     if text::same(word, b"split") {
         return Command::Split;
     }
@@ -61,8 +69,12 @@ pub fn named(word: &[u8]) -> Command {
 // How many words a command line has at least, the program's name and the command among them.
 fn length(c: Command) -> usize {
     match c {
-        Command::Encrypt | Command::Product | Command::Sheet | Command::Read => 6,
-        Command::Split | Command::Refresh | Command::Sbox => 5,
+        Command::Encrypt
+        | Command::EncryptPrepared
+        | Command::Product
+        | Command::Sheet
+        | Command::Read => 6,
+        Command::Prepare | Command::Split | Command::Refresh | Command::Sbox => 5,
         Command::Join | Command::Tape => 4,
         Command::Places => 3,
         Command::Help | Command::Unknown => 2,

@@ -3,17 +3,19 @@
 pub fn print() {
     io::write_all(
         1,
-        b"dokkumel encrypt ORDER KEYSHARES INPUTSHARES TAPE   AES encryption of one block in shares
-dokkumel split ORDER INPUT TAPE                     16, 24 or 32 bytes into shares
-dokkumel join ORDER SHARES                          the XOR of the shares
-dokkumel refresh ORDER SHARES TAPE                  new shares of one byte
-dokkumel product ORDER LEFT RIGHT TAPE              product of two bytes in shares
-dokkumel sbox ORDER SHARES TAPE                     S-box of one byte in shares
-dokkumel sheet ORDER LEFT RIGHT TAPE                every byte of a product: number, name, byte
-dokkumel read ORDER LEFT RIGHT TAPE PLACE...        the bytes at listed places of a product
-dokkumel places ORDER                               the places of a product: number, name
-dokkumel tape ORDER KEYBYTES                        which tape bytes go into which step of an encryption
-dokkumel help                                       this text
+        b"dokkumel encrypt ORDER KEYSHARES INPUTSHARES TAPE           AES encryption of one block in shares
+dokkumel prepare ORDER KEYSHARES TAPE                       all AES round keys in shares, for encrypt-prepared
+dokkumel encrypt-prepared ORDER PREPARED INPUTSHARES TAPE   AES encryption of one block in shares from prepared round keys
+dokkumel split ORDER INPUT TAPE                             16, 24 or 32 bytes into shares
+dokkumel join ORDER SHARES                                  the XOR of the shares
+dokkumel refresh ORDER SHARES TAPE                          new shares of one byte
+dokkumel product ORDER LEFT RIGHT TAPE                      product of two bytes in shares
+dokkumel sbox ORDER SHARES TAPE                             S-box of one byte in shares
+dokkumel sheet ORDER LEFT RIGHT TAPE                        every byte of a product: number, name, byte
+dokkumel read ORDER LEFT RIGHT TAPE PLACE...                the bytes at listed places of a product
+dokkumel places ORDER                                       the places of a product: number, name
+dokkumel tape ORDER KEYBYTES                                which tape bytes go into which step of an encryption
+dokkumel help                                               this text
 ORDER, KEYBYTES and PLACE are decimal. The others are bytes in hexadecimal, share after share; '' is no byte.
 TAPE may be -, for raw bytes from standard input. A call prints its output and the tape bytes taken, or its refusal.
 ",

@@ -106,14 +106,23 @@ fn rounds(nk: usize, d: usize, start: Spot) -> Spot
     s
 }
 
-// All S-boxes of an encryption with a key of nk words, and how many bytes the library asks for.
+// How many bytes the library asks for: in the single call, and in each of the two calls from prepared keys.
+fn print_needs(nk: usize, d: usize)
+    requires { ⌜ (d ≤ 8) × Key-size nk ⌝ }
+{
+    text::print_with(b"total ", aes::needs::cipher_need(nk, d));
+    text::print_with(b"\npreparation ", aes::needs::schedule_need(nk, d));
+    text::print_with(b", rounds ", aes::needs::rounds_need(nk, d));
+    text::print(b"\n");
+}
+
+// All S-boxes of an encryption with a key of nk words, and its needs.
 fn print(nk: usize, d: usize)
     requires { ⌜ (d ≤ 8) × Key-size nk ⌝ }
 {
     let start = Spot { number: 0, at: 0 };
     rounds(nk, d, key_words(nk, d, start));
-    text::print_with(b"total ", aes::needs::cipher_need(nk, d));
-    text::print(b"\n");
+    print_needs(nk, d);
 }
 
 fn run_on(order: usize, size: usize) {

@@ -8,25 +8,32 @@ use crate::commands::Command;
 use shares::Answer;
 use shares::Refusal;
 
-// How long a string of that size is in n shares.
+// How long a string of that size is in n shares; 0 above 32 bytes, where no routine takes it.
 fn in_shares(n: usize, size: usize) -> usize
-    requires { ⌜ (n ≤ 9) × (size ≤ 288) ⌝ }
-    ensures { λ r. ⌜ r ≤ 2592 ⌝ }
+    requires { ⌜ n ≤ 9 ⌝ }
+    ensures { λ r. ⌜ r ≤ 288 ⌝ }
 {
+    if 32 < size {
+        return 0;
+    }
     n * size
 }
 
 // The output's length that a routine wants, on a first input of that length. Where the order is not served or the input does not fit, the call
 // is refused for that before its output is looked at, and any length will do.
 fn room(c: Command, order: usize, length: usize) -> usize
-    ensures { λ r. ⌜ r ≤ 2592 ⌝ }
+    ensures { λ r. ⌜ r ≤ 2160 ⌝ }
 {
-    if 8 < order || 288 < length {
+    if 8 < order {
         return 0;
     }
     let n = order + 1;
     match c {
-        Command::Encrypt => in_shares(n, 16),
+        Command::Encrypt | Command::EncryptPrepared => in_shares(n, 16),
+        Command::Prepare => aes::sizes::prepared_length(
+            aes::sizes::key_words(order, length),
+            order,
+        ),
         Command::Split => in_shares(n, length),
         Command::Join => shares::answers::share_length(n, length),
         _ => n,
@@ -46,6 +53,8 @@ fn call(
 {
     match c {
         Command::Encrypt => aes::encrypt(order, first, second, tape, output),
+        Command::Prepare => aes::prepare(order, first, tape, output),
+        Command::EncryptPrepared => aes::encrypt_prepared(order, first, second, tape, output),
         Command::Split => shares::split(order, first, tape, output),
         Command::Join => shares::join(order, first, output),
         Command::Refresh => shares::refresh(order, first, tape, output),
@@ -58,7 +67,10 @@ fn call(
 // Calls the routine and prints its answer.
 fn run_in(c: Command, order: usize, first: &[u8], second: &[u8], tape: &[u8], output: &mut [u8]) {
     let a = call(c, order, first, second, tape, output);
-    answers::print(a, output);
+    match c {
+        Command::EncryptPrepared => answers::print_on_prepared(a, output),
+        _ => answers::print(a, output),
+    }
 }
 
 // The same, with an output of the length that the routine wants.

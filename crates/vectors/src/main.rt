@@ -2,9 +2,13 @@
 // of FIPS 197, and on standard input the lines that an unrelated AES made (make-stdin). Prints what was computed, line by line.
 mod answers;
 mod counts;
+mod examples;
+mod expansions;
 mod lines;
 mod outside;
 mod published;
+mod round_keys;
+mod routes;
 mod rows;
 mod runs;
 mod tapes;
@@ -21,7 +25,8 @@ fn main() {
         different: 0,
     };
     let small = values::compare(start);
-    let known = published::compare(&mut tape, small);
+    let expanded = expansions::compare(&mut tape, small);
+    let known = published::compare(&mut tape, expanded);
     let all = outside::compare(&input[..n], &mut tape, known);
     counts::print(all);
 }

@@ -2,6 +2,7 @@
 use crate::counts;
 use crate::counts::Tally;
 use crate::lines;
+use crate::routes::Route;
 use crate::rows;
 use crate::runs;
 use crate::runs::Run;
@@ -19,7 +20,7 @@ fn compare_at(
 ) -> Tally {
     let mut cipher = [0u8; 16];
     tapes::fill(3, tapes::seed(t.compared), tape);
-    match runs::line(line, size, order, tape, &mut cipher) {
+    match runs::line(Route::Single, line, size, order, tape, &mut cipher) {
         Run::Unread => t,
         Run::Done(_, equal) => {
             rows::xor_into(&cipher, sum);

@@ -1,13 +1,19 @@
 // One encryption of a plain key and block: both are split, the shares encrypted, and the result joined.
 ghost use Prim.Native.Nat.{_≤_};
+use crate::counts;
+use crate::counts::Tally;
 use crate::lines;
+use crate::routes;
+use crate::routes::Came;
+use crate::routes::Route;
 use shares::Answer;
 use shares::Refusal;
+use text::hexadecimal;
 
-// What became of a line: it could not be read; or the answer that came, and whether the joined ciphertext is the line's.
+// What became of a line: it could not be read; or what came of the route, and whether the joined ciphertext is the line's.
 pub enum Run {
     Unread,
-    Done(Answer, bool),
+    Done(Came, bool),
 }
 
 // The orders that are run: 1, 2, 3, 8 in turn.
@@ -21,15 +27,17 @@ pub fn order_in_turn(k: u64) -> usize {
 }
 
 // How long a string of that size is in shares.
-fn in_shares(order: usize, size: usize) -> usize
+pub fn in_shares(order: usize, size: usize) -> usize
     requires { ⌜ (order ≤ 8) × (size ≤ 32) ⌝ }
     ensures { λ r. ⌜ r ≤ 288 ⌝ }
 {
     (order + 1) * size
 }
 
-// The four calls, each on the tape that the ones before left, with room for the shares. The answer is the encryption's, or a refusal of any.
+// Splitting, encryption by that route and joining, each on the tape that the calls before left, with room for the shares. What came is the
+// encryption's, or the refusal of a splitting or of the joining.
 fn encrypted(
+    route: Route,
     order: usize,
     key: &[u8],
     block: &[u8],
@@ -38,42 +46,47 @@ fn encrypted(
     blocks: &mut [u8],
     ciphers: &mut [u8],
     cipher: &mut [u8],
-) -> Answer {
+) -> Came {
     let first = shares::split(order, key, tape, keys);
     let Answer::Taken(used) = first else {
-        return first;
+        return Came::Once(first);
     };
     let rest = shares::unused_tape(tape, used);
     let second = shares::split(order, block, rest, blocks);
     let Answer::Taken(more) = second else {
-        return second;
+        return Came::Once(second);
     };
     let left = shares::unused_tape(rest, more);
-    let answer = aes::encrypt(order, keys, blocks, left, ciphers);
-    let Answer::Taken(_) = answer else {
-        return answer;
-    };
+    let came = routes::encrypt(route, order, keys, blocks, left, ciphers);
     let last = shares::join(order, ciphers, cipher);
     let Answer::Taken(_) = last else {
-        return last;
+        return Came::Once(last);
     };
-    answer
+    came
 }
 
 // The same, with buffers for at most 9 shares.
-pub fn encrypt(order: usize, key: &[u8], block: &[u8], tape: &[u8], cipher: &mut [u8]) -> Answer {
+fn encrypt(
+    route: Route,
+    order: usize,
+    key: &[u8],
+    block: &[u8],
+    tape: &[u8],
+    cipher: &mut [u8],
+) -> Came {
     let mut keys = [0u8; 288];
     let mut blocks = [0u8; 144];
     let mut ciphers = [0u8; 144];
     if 8 < order {
-        return Answer::Refused(Refusal::Order);
+        return Came::Once(Answer::Refused(Refusal::Order));
     }
     if 32 < key.len() {
-        return Answer::Refused(Refusal::Key);
+        return Came::Once(Answer::Refused(Refusal::Key));
     }
     let size = in_shares(order, key.len());
     let room = (order + 1) * 16;
     encrypted(
+        route,
         order,
         key,
         block,
@@ -85,8 +98,9 @@ pub fn encrypt(order: usize, key: &[u8], block: &[u8], tape: &[u8], cipher: &mut
     )
 }
 
-// A line run at that order on that tape, with room for what it says.
+// A line run by that route at that order on that tape, with room for what it says.
 fn line_with(
+    route: Route,
     line: &[u8],
     order: usize,
     key: &mut [u8],
@@ -98,12 +112,19 @@ fn line_with(
     if !lines::read(line, key, block, known) {
         return Run::Unread;
     }
-    let answer = encrypt(order, key, block, tape, cipher);
-    Run::Done(answer, text::same(cipher, known))
+    let came = encrypt(route, order, key, block, tape, cipher);
+    Run::Done(came, text::same(cipher, known))
 }
 
 // The same of a line whose key has size bytes.
-pub fn line(line: &[u8], size: usize, order: usize, tape: &[u8], cipher: &mut [u8]) -> Run {
+pub fn line(
+    route: Route,
+    line: &[u8],
+    size: usize,
+    order: usize,
+    tape: &[u8],
+    cipher: &mut [u8],
+) -> Run {
     let mut key = [0u8; 32];
     let mut block = [0u8; 16];
     let mut known = [0u8; 16];
@@ -111,6 +132,7 @@ pub fn line(line: &[u8], size: usize, order: usize, tape: &[u8], cipher: &mut [u
         return Run::Unread;
     }
     line_with(
+        route,
         line,
         order,
         &mut key[0..size],
@@ -119,4 +141,34 @@ pub fn line(line: &[u8], size: usize, order: usize, tape: &[u8], cipher: &mut [u
         tape,
         cipher,
     )
+}
+
+// What came of a run, as the rest of a line.
+fn show(run: Run, cipher: &[u8], t: Tally) -> Tally {
+    match run {
+        Run::Unread => {
+            text::print(b"unread");
+            counts::judged(t, false)
+        }
+        Run::Done(came, equal) => {
+            hexadecimal::print(cipher);
+            text::print(b", ");
+            routes::print(came);
+            counts::judged(t, equal && routes::is_as_single(came))
+        }
+    }
+}
+
+// A run of a line whose key has size bytes, shown as the rest of a line of output.
+pub fn compare(
+    route: Route,
+    line: &[u8],
+    size: usize,
+    order: usize,
+    tape: &[u8],
+    t: Tally,
+) -> Tally {
+    let mut cipher = [0u8; 16];
+    let done = self::line(route, line, size, order, tape, &mut cipher);
+    show(done, &cipher, t)
 }

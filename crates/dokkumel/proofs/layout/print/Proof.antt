@@ -10,33 +10,11 @@ key-words-requires c κs = (c .pre .0, size-bounds (c .pre .1) .0, size-bounds (
 rounds-requires : tie.Need-rounds-requires
 rounds-requires c κs = (c .before .pre .0, size-bounds (c .before .pre .1) .1)
 
-slice-aggregate-print-with : tie.Need-slice-aggregate-print-with
-slice-aggregate-print-with c = search needs
-
-cipher-need-requires : tie.Need-cipher-need-requires
-cipher-need-requires c κs = search needs
-
-print-with-requires : tie.Need-print-with-requires
-print-with-requires c κs = search needs
-
-slice-aggregate-print : tie.Need-slice-aggregate-print
-slice-aggregate-print c = search needs
-
-print-requires : tie.Need-print-requires
-print-requires c κs = search needs
+print-needs-requires : tie.Need-print-needs-requires
+print-needs-requires c κs = search needs
 
 returns : tie.Need-returns
 returns c = search needs
 
 pub print-spec : {M : Type 1} → statement M
-print-spec =
-    tie.close
-    (tie.spec
-    key-words-requires
-    rounds-requires
-    slice-aggregate-print-with
-    cipher-need-requires
-    print-with-requires
-    slice-aggregate-print
-    print-requires
-    returns)
+print-spec = tie.close (tie.spec key-words-requires rounds-requires print-needs-requires returns)

@@ -12,11 +12,17 @@ returns c = search needs
 add-n : tie.Need-add-n
 add-n c = search needs
 
+in-shares-requires : tie.Need-in-shares-requires
+in-shares-requires c κs = search needs
+
 enum-told : tie.Need-enum-told
 enum-told c = search needs
 
-in-shares-requires : tie.Need-in-shares-requires
-in-shares-requires c κs = search needs
+key-words-requires : tie.Need-key-words-requires
+key-words-requires c κs = search needs
+
+prepared-length-requires : tie.Need-prepared-length-requires
+prepared-length-requires c κs = search needs
 
 enum-told-2 : tie.Need-enum-told-2
 enum-told-2 c = search needs
@@ -37,10 +43,13 @@ returns-3 : tie.Need-returns-3
 returns-3 c = search needs
 
 returns-4 : tie.Need-returns-4
-returns-4 c = let a = c .before .before .before .before .before .args in omega (arith, share-length-le (a .order + 1) (a .length))
+returns-4 c = search needs
 
 returns-5 : tie.Need-returns-5
-returns-5 c = search needs
+returns-5 c = let a = c .before .before .before .before .args in omega (arith, share-length-le (a .order + 1) (a .length))
+
+returns-6 : tie.Need-returns-6
+returns-6 c = search needs
 
 pub room-spec : {M : Type 1} → statement M
 room-spec =
@@ -48,8 +57,10 @@ room-spec =
     (tie.spec
     returns
     add-n
-    enum-told
     in-shares-requires
+    enum-told
+    key-words-requires
+    prepared-length-requires
     enum-told-2
     in-shares-requires-2
     enum-told-3
@@ -57,4 +68,5 @@ room-spec =
     returns-2
     returns-3
     returns-4
-    returns-5)
+    returns-5
+    returns-6)

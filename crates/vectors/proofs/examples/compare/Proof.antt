@@ -1,16 +1,16 @@
--- `vectors::published::example` meets its contract. Assumes nothing.
+-- `vectors::examples::compare` meets its contract. Assumes nothing.
 use mathlib.Core.Path.{_≡_, refl}
 use Prim.Native.Nat.{_≤_, _-_}
 use borrow.Author.Needs.{needs}
 use lib.ListN.{length}
-use Rattle.vectors.proofs.published.example.Statement.{statement}
-use Rattle.vectors.proofs.published.example.Tie as tie
+use Rattle.vectors.proofs.examples.compare.Statement.{statement}
+use Rattle.vectors.proofs.examples.compare.Tie as tie
 
 abbrev Inv-loop : tie.InvT-loop
-Inv-loop name line size tape₀ t₀ k₀ tape t k = (k ≤ 12) × (length tape ≡ length tape₀)
+Inv-loop of name line size tape₀ t₀ k₀ tape t k = (k ≤ 12) × (length tape ≡ length tape₀)
 
 abbrev μ-loop : tie.MeasureT-loop
-μ-loop name line size tape₀ t₀ k₀ tape t k = 12 - k
+μ-loop of name line size tape₀ t₀ k₀ tape t k = 12 - k
 
 loop-holds : tie.Need-loop-holds Inv-loop μ-loop
 loop-holds c = (search needs, refl)
@@ -39,8 +39,8 @@ same-length c = search needs
 returns : tie.Need-returns Inv-loop μ-loop
 returns c = search needs
 
-pub example-spec : {M : Type 1} → statement M
-example-spec =
+pub compare-spec : {M : Type 1} → statement M
+compare-spec =
     tie.close
     (tie.spec
     Inv-loop
