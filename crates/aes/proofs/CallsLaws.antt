@@ -6,7 +6,7 @@ use Prim.Native.Nat.{ℕ, zero, suc, _+_, _*_, _-_, _/_, _≤_, _<_}
 use native.Mathlib.Nat.{mul-le-mul}
 use native.Mathlib.Numerals.{add-one}
 use native.Mathlib.Omega.{arith}
-use borrow.Author.Tests.{eqb-true, eq-eqb, ne-eqb, lt-ltb}
+use borrow.Author.Tests.{eqb-true, eq-eqb, ne-eqb, lt-ltb, ltb-true}
 use lib.Dec.{ltb, eqb}
 use lib.ListN.{length, take, drop}
 use Rattle.shares.specs.declared.Answer.{Answer}
@@ -14,7 +14,7 @@ use Rattle.shares.specs.declared.Answer.the-variants.{Taken}
 use Rattle.shares.specs.Outcome.{refused, unserved, guarded, check, share-length}
 use Rattle.shares.specs.Strings.{parts, laid}
 use Rattle.shares.proofs.WriteLaws.{part-rest}
-use Rattle.shares.proofs.OutcomeLaws.{check-taken, share-length-cases, share-length-is}
+use Rattle.shares.proofs.OutcomeLaws.{served-bounds, check-taken, answered-taken, share-length-cases, share-length-is}
 use Rattle.sbox.specs.Box.{box-need}
 use Rattle.sbox.proofs.BoxLaws.{box-need-is}
 use Rattle.cipher.specs.Fips197.{rounds}
@@ -22,7 +22,9 @@ use Rattle.cipher.specs.Cipher.{schedule, schedule-need, prepared-laid, encrypt
 use Rattle.cipher.proofs.Accuracy.{encrypted-from-prepared}
 use Rattle.cipher.proofs.NeedLaws.{schedule-need-4, schedule-need-6, schedule-need-8, encrypted-with-need-is}
 use Rattle.aes.specs.Fits.{Key-size, four, six, eight}
-use Rattle.aes.specs.Calls.{key-words, prepared-length, prepared-words, boxes-of}
+use Rattle.aes.specs.declared.Route.{Route}
+use Rattle.aes.specs.declared.Route.the-variants.{Single, Prepared}
+use Rattle.aes.specs.Calls.{key-words, prepared-length, prepared-words, boxes-of, words-by, need-by, Block-answer}
 
 -- ---- refusal 2
 
@@ -181,6 +183,33 @@ key-long nk d l e = e ∙ ap (λ (n : ℕ). n * (4 * nk)) (add-one d)
 pub keys-long : (nk d l : ℕ) → l ≡ prepared-length nk d → l ≡ suc d * (16 * suc (rounds nk))
 unfolding prepared-length
 keys-long nk d l e = e ∙ ap (λ (n : ℕ). n * (16 * suc (rounds nk))) (add-one d)
+
+-- ---- an encryption, by either route
+
+pub words-sized : (route : Route) (d l : ℕ) → 0 < words-by route d l → Key-size (words-by route d l)
+words-sized Single = key-sized
+words-sized Prepared = prepared-sized
+
+-- what is known of a call that is let through
+pub record Through (route : Route) (d k x t o taken : ℕ) : Type 0 where
+  pub order : d ≤ 8
+  pub some : 0 < words-by route d k
+  pub input-long : x ≡ suc d * 16
+  pub output-long : o ≡ suc d * 16
+  pub drawn : need-by route (words-by route d k) d ≤ t
+  pub counted : taken ≡ need-by route (words-by route d k) d
+
+pub let-through : (route : Route) (d k x t o q : ℕ) (a : Answer) → a ≡ Block-answer route d k x t o → a ≡ Taken q → Through route d k x t o q
+let-through route d k x t o q a e f =
+    let g = answered-taken d (ltb 0 (words-by route d k)) (eqb x ((d + 1) * 16)) (eqb o ((d + 1) * 16)) t (need-by route (words-by route d k) d) q (sym e ∙ f) in
+    record {
+      order = served-bounds d (g .0) .1;
+      some = ltb-true 0 (words-by route d k) (g .1);
+      input-long = block-long d x (g .2);
+      output-long = block-long d o (g .3);
+      drawn = g .4;
+      counted = g .5;
+    }
 
 -- ---- what the cores make, as the outcomes name it
 

@@ -6,10 +6,9 @@ ghost use Rattle.shares.specs.Outcome.{outcome};
 ghost use Rattle.cipher.specs.Fips197.{rounds};
 ghost use Rattle.cipher.specs.Cipher as Cipher;
 ghost use Rattle.aes.specs.Calls.{Encrypt-outcome};
-use crate::needs;
+use crate::Route;
 use crate::sizes;
 use shares::Answer;
-use shares::Refusal;
 
 // The key expansion draws first, then the rounds.
 fn encrypt_with(
@@ -49,23 +48,17 @@ fn encrypt_core(
 pub fn encrypt(order: usize, key: &[u8], input: &[u8], tape: &[u8], output: &mut [u8]) -> Answer
     ensures { λ r. ⌜ outcome r (now (output .exit)) ≡ Encrypt-outcome order (now (key .entry)) (now (input .entry)) (now (tape .entry)) (now (output .entry)) ⌝ }
 {
-    if shares::answers::unserved(order) {
-        return Answer::Refused(Refusal::Order);
-    }
-    let nk = sizes::key_words(order, key.len());
-    if nk == 0 {
-        return Answer::Refused(Refusal::Key);
-    }
-    let block = (order + 1) * 16;
-    let answer = shares::answers::checked(
-        true,
-        input.len() == block,
-        output.len() == block,
+    let answer = crate::blocks::answer(
+        Route::Single,
+        order,
+        key.len(),
+        input.len(),
         tape.len(),
-        needs::cipher_need(nk, order),
+        output.len(),
     );
     let Answer::Taken(_) = answer else {
         return answer;
     };
+    let nk = sizes::key_words(order, key.len());
     Answer::Taken(encrypt_core(nk, order, key, input, tape, output))
 }

@@ -3,6 +3,7 @@
 //
 // The routines of the documents stand at the root, and ask nothing of a caller. What stands in the modules besides serves the crates above;
 // where it has a `requires`, its callers prove it.
+pub mod blocks;
 pub mod encryption;
 pub mod needs;
 pub mod preparation;
@@ -12,3 +13,9 @@ pub mod sizes;
 pub use encryption::encrypt;
 pub use preparation::encrypt_prepared;
 pub use preparation::prepare;
+
+// How an encryption gets its round keys: it makes them from key shares, in a single call, or they were prepared.
+pub enum Route {
+    Single,
+    Prepared,
+}

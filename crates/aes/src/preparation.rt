@@ -2,6 +2,7 @@
 ghost use mathlib.Core.Path.{_≡_};
 ghost use Rattle.shares.specs.Outcome.{outcome};
 ghost use Rattle.aes.specs.Calls.{Prepare-outcome, Encrypt-prepared-outcome};
+use crate::Route;
 use crate::needs;
 use crate::sizes;
 use shares::Answer;
@@ -41,23 +42,17 @@ pub fn encrypt_prepared(
 ) -> Answer
     ensures { λ r. ⌜ outcome r (now (output .exit)) ≡ Encrypt-prepared-outcome order (now (prepared .entry)) (now (input .entry)) (now (tape .entry)) (now (output .entry)) ⌝ }
 {
-    if shares::answers::unserved(order) {
-        return Answer::Refused(Refusal::Order);
-    }
-    let nk = sizes::prepared_words(order, prepared.len());
-    if nk == 0 {
-        return Answer::Refused(Refusal::Key);
-    }
-    let block = (order + 1) * 16;
-    let answer = shares::answers::checked(
-        true,
-        input.len() == block,
-        output.len() == block,
+    let answer = crate::blocks::answer(
+        Route::Prepared,
+        order,
+        prepared.len(),
+        input.len(),
         tape.len(),
-        needs::rounds_need(nk, order),
+        output.len(),
     );
     let Answer::Taken(_) = answer else {
         return answer;
     };
+    let nk = sizes::prepared_words(order, prepared.len());
     Answer::Taken(crate::rounds::rounds_core(nk, order, prepared, input, tape, output))
 }

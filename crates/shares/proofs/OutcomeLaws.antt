@@ -7,10 +7,10 @@ use native.Mathlib.Omega.{arith}
 use lib.Dec.{ltb, eqb}
 use borrow.Author.Tests.{eqb-true, eqb-false, ltb-false, le-ltb, eq-eqb, ne-eqb}
 use Rattle.shares.specs.declared.Refusal.{Refusal}
-use Rattle.shares.specs.declared.Refusal.the-variants.{Key, Input, Output, Tape}
+use Rattle.shares.specs.declared.Refusal.the-variants.{Order, Key, Input, Output, Tape}
 use Rattle.shares.specs.declared.Answer.{Answer}
 use Rattle.shares.specs.declared.Answer.the-variants.{Taken, Refused}
-use Rattle.shares.specs.Outcome.{Outcome, done, refused, number, outcome, unserved, guarded, check, share-length}
+use Rattle.shares.specs.Outcome.{Outcome, done, refused, number, outcome, unserved, guarded, check, answered, share-length}
 
 clash : true ≡ false → ⊥
 clash e = let z : _≡_ {A = ℕ} 0 1 = cc in omega arith
@@ -39,35 +39,56 @@ abbrev ends : Answer → (output made : List ℕ) → Outcome
 ends (Taken k) o made = done k made
 ends (Refused r) o made = refused (number r) o
 
+module _ (d : ℕ) (key input room : Bool) (tape need : ℕ) where
+  pub answered-unserved : unserved d ≡ true → Refused Order ≡ answered d key input room tape need
+  unfolding answered
+  answered-unserved u = simp u
+
+  -- past the order, `check` decides
+  pub answered-check : unserved d ≡ false → check key input room tape need ≡ answered d key input room tape need
+  unfolding answered
+  answered-check u = simp u
+
+  pub answered-keyless : unserved d ≡ false → key ≡ false → Refused Key ≡ answered d key input room tape need
+  unfolding answered check
+  answered-keyless u y = simp (u, y)
+
+  module _ (o made : List ℕ) where
+    guarded-answered : guarded d key input room tape need o made ≡ ends (answered d key input room tape need) o made
+    unfolding guarded answered check
+    guarded-answered = go (unserved d) key input room (ltb tape need)
+      where
+        go : (u k i r t : Bool)
+            → cond u (refused 1 o) (cond (not k) (refused 2 o) (cond (not i) (refused 3 o) (cond (not r) (refused 4 o) (cond t (refused 5 o) (done need made)))))
+            ≡ ends (cond u (Refused Order) (cond (not k) (Refused Key) (cond (not i) (Refused Input) (cond (not r) (Refused Output) (cond t (Refused Tape) (Taken need)))))) o made
+        go true k i r t = refl
+        go false false i r t = refl
+        go false true false r t = refl
+        go false true true false t = refl
+        go false true true true true = refl
+        go false true true true false = refl
+
+    module _ (a : Answer) (e : a ≡ answered d key input room tape need) where
+      -- a refusal is the call's
+      pub answered-refused : (r : Refusal) → a ≡ Refused r → outcome a o ≡ guarded d key input room tape need o made
+      answered-refused r f = ap (λ (x : Answer). outcome x o) f ∙ ap (λ (x : Answer). ends x o made) (sym f ∙ e) ∙ sym guarded-answered
+
+      -- a call that is let through is done
+      pub answered-done : (k j : ℕ) (q : List ℕ) → a ≡ Taken k → j ≡ k → q ≡ made → done j q ≡ guarded d key input room tape need o made
+      answered-done k j q f p s = ap₂ done p s ∙ ap (λ (x : Answer). ends x o made) (sym f ∙ e) ∙ sym guarded-answered
+
 module _ (d : ℕ) (key input room : Bool) (tape need : ℕ) (o made : List ℕ) where
   pub guarded-unserved : unserved d ≡ true → refused 1 o ≡ guarded d key input room tape need o made
   unfolding guarded
   guarded-unserved e = simp e
 
-  module _ (served : unserved d ≡ false) where
-    -- past the order, `check` decides
-    guarded-check : guarded d key input room tape need o made ≡ ends (check key input room tape need) o made
-    unfolding guarded check
-    guarded-check = simp served (go key input room (ltb tape need))
-      where
-        go : (k i r t : Bool)
-            → cond (not k) (refused 2 o) (cond (not i) (refused 3 o) (cond (not r) (refused 4 o) (cond t (refused 5 o) (done need made))))
-            ≡ ends (cond (not k) (Refused Key) (cond (not i) (Refused Input) (cond (not r) (Refused Output) (cond t (Refused Tape) (Taken need))))) o made
-        go false i r t = refl
-        go true false r t = refl
-        go true true false t = refl
-        go true true true true = refl
-        go true true true false = refl
+  -- the same from the answer of `check`, at an order that is served
+  module _ (served : unserved d ≡ false) (a : Answer) (e : a ≡ check key input room tape need) where
+    pub guarded-refused : (r : Refusal) → a ≡ Refused r → outcome a o ≡ guarded d key input room tape need o made
+    guarded-refused = answered-refused d key input room tape need o made a (e ∙ answered-check d key input room tape need served)
 
-    module _ (a : Answer) (e : a ≡ check key input room tape need) where
-      -- a refusal is the call's
-      pub guarded-refused : (r : Refusal) → a ≡ Refused r → outcome a o ≡ guarded d key input room tape need o made
-      guarded-refused r f =
-          ap (λ (x : Answer). outcome x o) f ∙ ap (λ (x : Answer). ends x o made) (sym f ∙ e) ∙ sym guarded-check
-
-      -- a call that is let through is done
-      pub guarded-done : (k j : ℕ) (q : List ℕ) → a ≡ Taken k → j ≡ k → q ≡ made → done j q ≡ guarded d key input room tape need o made
-      guarded-done k j q f p s = ap₂ done p s ∙ ap (λ (x : Answer). ends x o made) (sym f ∙ e) ∙ sym guarded-check
+    pub guarded-done : (k j : ℕ) (q : List ℕ) → a ≡ Taken k → j ≡ k → q ≡ made → done j q ≡ guarded d key input room tape need o made
+    guarded-done = answered-done d key input room tape need o made a (e ∙ answered-check d key input room tape need served)
 
 -- what is known where the check lets a call through
 pub check-taken : (key input room : Bool) (tape need k : ℕ) → check key input room tape need ≡ Taken k
@@ -83,6 +104,17 @@ check-taken key input room tape need k e = go key input room (ltb tape need) ref
     go true true false t p e = absurd (never Output k e)
     go true true true true p e = absurd (never Tape k e)
     go true true true false p e = (refl, refl, refl, ltb-false tape need p, cc)
+
+-- the same, the order among it
+pub answered-taken : (d : ℕ) (key input room : Bool) (tape need k : ℕ) → answered d key input room tape need ≡ Taken k
+    → (unserved d ≡ false) × (key ≡ true) × (input ≡ true) × (room ≡ true) × (need ≤ tape) × (k ≡ need)
+unfolding answered
+answered-taken d key input room tape need k = go (unserved d)
+  where
+    go : (u : Bool) → cond u (Refused Order) (check key input room tape need) ≡ Taken k
+        → (u ≡ false) × (key ≡ true) × (input ≡ true) × (room ≡ true) × (need ≤ tape) × (k ≡ need)
+    go true e = absurd (never Order k e)
+    go false e = let h = check-taken key input room tape need k e in (refl, h .0, h .1, h .2, h .3, h .4)
 
 -- ---- lengths of strings
 
