@@ -1,24 +1,27 @@
--- THE ACCURACY RULE (demand 2) about the outcomes that the contracts name, by either route: joining what a call puts out gives FIPS 197's
--- ciphertext or round keys, and preparing before encrypting is the single call. Assumes nothing.
+-- THE ACCURACY RULE (demand 2) about the outcomes that the contracts name, by either route and in either direction: joining what a call puts out
+-- gives FIPS 197's ciphertext, plaintext or round keys, and preparing before encrypting is the single call. Assumes nothing.
 use mathlib.Core.Path.{_≡_, refl, sym, ap, ap₂, _∙_}
 use mathlib.Core.Bool.{Bool, true, false, not, cond}
 use mathlib.Core.List.{List}
-use Prim.Native.Nat.{ℕ, suc, _+_, _*_, _-_, _≤_}
+use Prim.Native.Nat.{ℕ, suc, _+_, _*_, _-_, _≤_, _<_}
 use native.Mathlib.Numerals.{add-one}
 use native.Mathlib.Omega.{arith}
 use lib.Dec.{ltb, eqb}
 use lib.ListN.{length, drop, length-drop}
 use borrow.Author.Tests.{eq-eqb, eqb-true, ltb-true, ltb-false, lt-ltb, le-ltb}
+use Rattle.gf256.specs.declared.Direction.{Direction}
+use Rattle.gf256.specs.declared.Direction.the-variants.{Forward, Inverse}
 use Rattle.shares.specs.Outcome.{done, refused, unserved, guarded, share-length}
 use Rattle.shares.specs.Strings.{joined-string, parts}
 use Rattle.shares.specs.Calls.{Join-outcome, unused}
 use Rattle.shares.proofs.OutcomeLaws.{guarded-inverse, guarded-fits}
 use Rattle.shares.proofs.StringsLaws.{laid-length, shared-parts}
-use Rattle.cipher.specs.Fips197.{rounds, key-expansion, cipher-with, cipher}
-use Rattle.cipher.specs.Cipher.{schedule-need, prepared-laid, encrypted-with-need, encrypted-with-laid, cipher-need, encrypted-laid}
-use Rattle.cipher.proofs.Accuracy.{schedule-shared, encrypted-with-shared, prepared-joins-laid, encrypted-with-joins-laid, cipher-joins-laid, encrypted-from-prepared}
-use Rattle.aes.specs.Calls.{key-words, prepared-length, prepared-words, Encrypt-outcome, Prepare-outcome, Encrypt-prepared-outcome, after}
-use Rattle.aes.proofs.CallsLaws.{key-sized, key-length, prepared-long, prepared-words-of}
+use Rattle.cipher.specs.Fips197.{rounds, key-expansion, cipher-with, cipher, inv-cipher}
+use Rattle.cipher.specs.Cipher.{schedule-need, prepared-laid, encrypted-with-need, encrypted-with-laid, cipher-need, encrypted-laid, decrypted-laid}
+use Rattle.cipher.proofs.Accuracy.{schedule-shared, encrypted-with-shared, decrypted-shared, prepared-joins-laid, encrypted-with-joins-laid, cipher-joins-laid, inv-cipher-joins-laid, encrypted-from-prepared}
+use Rattle.aes.specs.Calls.{key-words, prepared-length, prepared-words, Encrypt-outcome, Decrypt-outcome, Prepare-outcome, Encrypt-prepared-outcome, after}
+use Rattle.aes.specs.Directions.{laid-of, cipher-of, Single-outcome}
+use Rattle.aes.proofs.CallsLaws.{key-sized, key-length, prepared-long, prepared-words-of, single-is}
 
 -- ---- lengths
 
@@ -42,7 +45,7 @@ unfolding prepared-length
 length-encrypted nk d k x ts h lk lx =
     ap length (sym (encrypted-from-prepared nk d k x ts h lk)) ∙ length-encrypted-with nk d (prepared-laid nk d k ts) x (drop (schedule-need nk d) ts) (length-prepared nk d k ts h lk) lx
 
-sixteen : (n : ℕ) → share-length n (n * 16) ≡ 16
+pub sixteen : (n : ℕ) → share-length n (n * 16) ≡ 16
 unfolding share-length
 sixteen n = simp (eq-eqb (n * 16) (n * 16) refl)
 
@@ -57,26 +60,69 @@ join-block d shares p u long h =
 
 -- ---- a single call
 
--- whatever `encrypt` puts out, `join` makes FIPS 197's ciphertext of it, for the key and the block that its shares join to
-pub encrypt-then-join : (d j : ℕ) (k x ts o shares p : List ℕ) → Encrypt-outcome d k x ts o ≡ done j shares → length p ≡ 16
-    → Join-outcome d shares p
-    ≡ done 0 (cipher (key-words d (length k)) (joined-string (parts (d + 1) (4 * key-words d (length k)) k)) (joined-string (parts (d + 1) 16 x)))
-unfolding Encrypt-outcome
-encrypt-then-join d j k x ts o shares p e h =
+-- how long a block is that either call makes, and what it joins to
+length-laid-of : (w : Direction) (nk d : ℕ) (k x ts : List ℕ) → 1 ≤ nk → length k ≡ (d + 1) * (4 * nk) → length x ≡ (d + 1) * 16
+    → length (laid-of w nk d k x ts) ≡ (d + 1) * 16
+unfolding decrypted-laid
+length-laid-of Forward nk d k x ts h lk lx = length-encrypted nk d k x ts h lk lx
+length-laid-of Inverse nk d k x ts h lk lx =
+    let lk′ = rw add-one at lk in
+    let lx′ = rw add-one at lx in
+    rw add-one (laid-length (decrypted-shared nk ts h (shared-parts d (4 * nk) k (omega arith)) (shared-parts d 16 x (omega arith))))
+
+laid-of-joins : (w : Direction) (nk d : ℕ) (k x ts : List ℕ) → 1 ≤ nk → length k ≡ (d + 1) * (4 * nk) → length x ≡ (d + 1) * 16
+    → joined-string (parts (d + 1) 16 (laid-of w nk d k x ts)) ≡ cipher-of w nk (joined-string (parts (d + 1) (4 * nk) k)) (joined-string (parts (d + 1) 16 x))
+laid-of-joins Forward = cipher-joins-laid
+laid-of-joins Inverse = inv-cipher-joins-laid
+
+-- the key that key shares join to
+abbrev pub key-joined : (d : ℕ) (k : List ℕ) → List ℕ
+key-joined d k = joined-string (parts (d + 1) (4 * key-words d (length k)) k)
+
+-- what is known of a single call that was carried through
+pub record Carried (w : Direction) (d : ℕ) (k x shares : List ℕ) : Type 0 where
+  pub served : unserved d ≡ false
+  pub some : 0 < key-words d (length k)
+  pub input-long : length x ≡ (d + 1) * 16
+  pub long : length shares ≡ (d + 1) * 16
+  pub joins : joined-string (parts (d + 1) 16 shares) ≡ cipher-of w (key-words d (length k)) (key-joined d k) (joined-string (parts (d + 1) 16 x))
+
+pub single-carried : (w : Direction) (d j : ℕ) (k x ts o shares : List ℕ) → Single-outcome w d k x ts o ≡ done j shares → Carried w d k x shares
+single-carried w d j k x ts o shares e =
     let nk = key-words d (length k) in
-    let g = guarded-inverse d _ _ _ _ _ _ _ j shares e in
+    let g = guarded-inverse d _ _ _ _ _ _ _ j shares (single-is w d k x ts o ∙ e) in
     let some = ltb-true 0 nk (g .1) in
     let lk = key-length d (length k) some in
     let lx : length x ≡ (d + 1) * 16 = eqb-true (length x) ((d + 1) * 16) (g .2) in
-    join-block d shares p (g .0) (ap length (g .6) ∙ length-encrypted nk d k x ts some lk lx) h
-    ∙ ap (done 0) (ap (λ (s : List ℕ). joined-string (parts (d + 1) 16 s)) (g .6) ∙ cipher-joins-laid nk d k x ts some lk lx)
+    record {
+      served = g .0;
+      some = some;
+      input-long = lx;
+      long = ap length (g .6) ∙ length-laid-of w nk d k x ts some lk lx;
+      joins = ap (λ (s : List ℕ). joined-string (parts (d + 1) 16 s)) (g .6) ∙ laid-of-joins w nk d k x ts some lk lx;
+    }
+
+single-then-join : (w : Direction) (d j : ℕ) (k x ts o shares p : List ℕ) → Single-outcome w d k x ts o ≡ done j shares → length p ≡ 16
+    → Join-outcome d shares p ≡ done 0 (cipher-of w (key-words d (length k)) (key-joined d k) (joined-string (parts (d + 1) 16 x)))
+single-then-join w d j k x ts o shares p e h =
+    let g = single-carried w d j k x ts o shares e in
+    join-block d shares p (g .served) (g .long) h ∙ ap (done 0) (g .joins)
+
+-- whatever `encrypt` puts out, `join` makes FIPS 197's ciphertext of it, for the key and the block that its shares join to
+pub encrypt-then-join : (d j : ℕ) (k x ts o shares p : List ℕ) → Encrypt-outcome d k x ts o ≡ done j shares → length p ≡ 16
+    → Join-outcome d shares p ≡ done 0 (cipher (key-words d (length k)) (key-joined d k) (joined-string (parts (d + 1) 16 x)))
+encrypt-then-join = single-then-join Forward
+
+-- whatever `decrypt` puts out, `join` makes FIPS 197's plaintext of it
+pub decrypt-then-join : (d j : ℕ) (k x ts o shares p : List ℕ) → Decrypt-outcome d k x ts o ≡ done j shares → length p ≡ 16
+    → Join-outcome d shares p ≡ done 0 (inv-cipher (key-words d (length k)) (key-joined d k) (joined-string (parts (d + 1) 16 x)))
+decrypt-then-join = single-then-join Inverse
 
 -- ---- prepared keys
 
 -- whatever `prepare` puts out joins to FIPS 197's round keys, for the key that the key shares join to
 pub prepare-joins : (d j : ℕ) (k ts o keys : List ℕ) → Prepare-outcome d k ts o ≡ done j keys
-    → joined-string (parts (d + 1) (16 * suc (rounds (key-words d (length k)))) keys)
-    ≡ key-expansion (key-words d (length k)) (joined-string (parts (d + 1) (4 * key-words d (length k)) k))
+    → joined-string (parts (d + 1) (16 * suc (rounds (key-words d (length k)))) keys) ≡ key-expansion (key-words d (length k)) (key-joined d k)
 unfolding Prepare-outcome
 prepare-joins d j k ts o keys e =
     let nk = key-words d (length k) in

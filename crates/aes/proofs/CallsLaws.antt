@@ -12,19 +12,23 @@ use lib.ListN.{length, take, drop}
 use Rattle.shares.specs.declared.Answer.{Answer}
 use Rattle.shares.specs.declared.Answer.the-variants.{Taken}
 use Rattle.shares.specs.Outcome.{refused, unserved, guarded, check, share-length}
-use Rattle.shares.specs.Strings.{parts, laid}
+use Rattle.gf256.specs.declared.Direction.{Direction}
+use Rattle.gf256.specs.declared.Direction.the-variants.{Forward, Inverse}
+use Rattle.shares.specs.Strings.{Shares, parts, laid}
+use Rattle.shares.proofs.StringsLaws.{shared-parts, parts-laid}
 use Rattle.shares.proofs.WriteLaws.{part-rest}
 use Rattle.shares.proofs.OutcomeLaws.{served-bounds, check-taken, answered-taken, share-length-cases, share-length-is}
 use Rattle.sbox.specs.Box.{box-need}
 use Rattle.sbox.proofs.BoxLaws.{box-need-is}
 use Rattle.cipher.specs.Fips197.{rounds}
-use Rattle.cipher.specs.Cipher.{schedule, schedule-need, prepared-laid, encrypted-with, encrypted-with-need, encrypted-with-laid, encrypted-laid}
-use Rattle.cipher.proofs.Accuracy.{encrypted-from-prepared}
+use Rattle.cipher.specs.Cipher.{schedule, schedule-need, prepared-laid, encrypted-with, encrypted-with-need, encrypted-with-laid, cipher-need, encrypted, encrypted-laid, decrypted, decrypted-laid}
+use Rattle.cipher.proofs.Accuracy.{schedule-shared}
 use Rattle.cipher.proofs.NeedLaws.{schedule-need-4, schedule-need-6, schedule-need-8, encrypted-with-need-is}
 use Rattle.aes.specs.Fits.{Key-size, four, six, eight}
 use Rattle.aes.specs.declared.Route.{Route}
 use Rattle.aes.specs.declared.Route.the-variants.{Single, Prepared}
-use Rattle.aes.specs.Calls.{key-words, prepared-length, prepared-words, boxes-of, words-by, need-by, Block-answer}
+use Rattle.aes.specs.Calls.{key-words, prepared-length, prepared-words, boxes-of, words-by, need-by, Block-answer, Encrypt-outcome, Decrypt-outcome}
+use Rattle.aes.specs.Directions.{with-of, laid-of, Single-outcome}
 
 -- ---- refusal 2
 
@@ -114,7 +118,7 @@ boxes-bound four = omega arith
 boxes-bound six = omega arith
 boxes-bound eight = omega arith
 
-box-need-bound : (d : ℕ) → d ≤ 8 → box-need d ≤ 160
+pub box-need-bound : (d : ℕ) → d ≤ 8 → box-need d ≤ 160
 box-need-bound d h =
     let t : 2 * d ≤ 16 = omega arith in
     let m : 2 * d * d ≤ 128 = mul-le-mul t h in
@@ -184,7 +188,7 @@ pub keys-long : (nk d l : ℕ) → l ≡ prepared-length nk d → l ≡ suc d * 
 unfolding prepared-length
 keys-long nk d l e = e ∙ ap (λ (n : ℕ). n * (16 * suc (rounds nk))) (add-one d)
 
--- ---- an encryption, by either route
+-- ---- a block, by either route
 
 pub words-sized : (route : Route) (d l : ℕ) → 0 < words-by route d l → Key-size (words-by route d l)
 words-sized Single = key-sized
@@ -222,13 +226,28 @@ pub encrypted-with-made : (nk d : ℕ) (keys x ts q : List ℕ)
 unfolding encrypted-with-laid
 encrypted-with-made nk d keys x ts q e = rw add-one e
 
--- an encryption, from the two calls that make it
-pub encrypted-made : (nk d n : ℕ) (k x ts keys q : List ℕ) → 1 ≤ nk → length k ≡ suc d * (4 * nk)
+-- a block from a key, as the two definitions have it
+block-laid : (w : Direction) (nk d : ℕ) (k x ts : List ℕ)
+    → laid (with-of w nk d (schedule nk d (parts (suc d) (4 * nk) k) ts) (parts (suc d) 16 x) (drop (schedule-need nk d) ts)) ≡ laid-of w nk d k x ts
+unfolding encrypted-laid encrypted decrypted-laid decrypted
+block-laid Forward nk d k x ts = rw add-one refl
+block-laid Inverse nk d k x ts = rw add-one refl
+
+-- a block, from the two calls that make it
+pub block-made : (w : Direction) (nk d n : ℕ) (k x ts keys q : List ℕ) → 1 ≤ nk → length k ≡ suc d * (4 * nk)
     → keys ≡ laid (schedule nk d (parts (suc d) (4 * nk) k) ts) → n ≡ schedule-need nk d
-    → q ≡ laid (encrypted-with nk d (parts (suc d) (16 * suc (rounds nk)) keys) (parts (suc d) 16 x) (take (length ts - n) (drop n ts)))
-    → q ≡ encrypted-laid nk d k x ts
-encrypted-made nk d n k x ts keys q h l e m g =
+    → q ≡ laid (with-of w nk d (parts (suc d) (16 * suc (rounds nk)) keys) (parts (suc d) 16 x) (take (length ts - n) (drop n ts)))
+    → q ≡ laid-of w nk d k x ts
+block-made w nk d n k x ts keys q h l e m g =
+    let back = ap (parts (suc d) (16 * suc (rounds nk))) e ∙ parts-laid (schedule-shared nk ts h (shared-parts d (4 * nk) k (omega arith))) in
     let rest : take (length ts - n) (drop n ts) ≡ drop (schedule-need nk d) ts = part-rest ts n ∙ ap (λ (b : ℕ). drop b ts) m in
-    encrypted-with-made nk d keys x _ q g
-    ∙ ap₂ (λ (p t : List ℕ). encrypted-with-laid nk d p x t) (prepared-made nk d k ts keys e) rest
-    ∙ encrypted-from-prepared nk d k x ts h (l ∙ ap (λ (b : ℕ). b * (4 * nk)) (sym (add-one d)))
+    g ∙ ap₂ (λ (ks : Shares) (t : List ℕ). laid (with-of w nk d ks (parts (suc d) 16 x) t)) back rest ∙ block-laid w nk d k x ts
+
+-- ---- either single call is the guarded block
+
+pub single-is : (w : Direction) (d : ℕ) (k x ts o : List ℕ)
+    → guarded d (ltb 0 (key-words d (length k))) (eqb (length x) ((d + 1) * 16)) (eqb (length o) ((d + 1) * 16)) (length ts) (cipher-need (key-words d (length k)) d) o (laid-of w (key-words d (length k)) d k x ts)
+    ≡ Single-outcome w d k x ts o
+unfolding Encrypt-outcome Decrypt-outcome
+single-is Forward d k x ts o = refl
+single-is Inverse d k x ts o = refl

@@ -1,3 +1,4 @@
-pub mod RoundLaws
 pub mod CallsLaws
+pub mod RoundLaws
 pub mod CallAccuracy
+pub mod RoundTrip

@@ -1,5 +1,5 @@
--- The outcome of each public routine on every input, refusals included. Document 01, "Turned-down calls", decides, and for prepared keys
--- document 02, wish 1. Assumes nothing: these are definitions.
+-- The outcome of each public routine on every input, refusals included. Document 01, "Turned-down calls", decides, for prepared keys document 02,
+-- wish 1, and for decryption wish 2. Assumes nothing: these are definitions.
 use mathlib.Core.Bool.{cond, true}
 use mathlib.Core.List.{List}
 use Prim.Native.Nat.{ℕ, suc, _+_, _*_, _/_}
@@ -8,7 +8,7 @@ use lib.ListN.{length}
 use Rattle.shares.specs.declared.Answer.{Answer}
 use Rattle.shares.specs.Outcome.{Outcome, done, refused, guarded, answered, share-length}
 use Rattle.cipher.specs.Fips197.{rounds}
-use Rattle.cipher.specs.Cipher.{schedule-need, prepared-laid, encrypted-with-need, encrypted-with-laid, cipher-need, encrypted-laid}
+use Rattle.cipher.specs.Cipher.{schedule-need, prepared-laid, encrypted-with-need, encrypted-with-laid, cipher-need, encrypted-laid, decrypted-laid}
 use Rattle.aes.specs.declared.Route.{Route}
 use Rattle.aes.specs.declared.Route.the-variants.{Single, Prepared}
 
@@ -41,6 +41,12 @@ Encrypt-outcome d k x ts o =
     let nk = key-words d (length k) in
     guarded d (ltb 0 nk) (eqb (length x) ((d + 1) * 16)) (eqb (length o) ((d + 1) * 16)) (length ts) (cipher-need nk d) o (encrypted-laid nk d k x ts)
 
+-- decryption: the lengths, the refusals and the count of encryption
+unfoldable pub Decrypt-outcome : (order : ℕ) (key input tape output : List ℕ) → Outcome
+Decrypt-outcome d k x ts o =
+    let nk = key-words d (length k) in
+    guarded d (ltb 0 nk) (eqb (length x) ((d + 1) * 16)) (eqb (length o) ((d + 1) * 16)) (length ts) (cipher-need nk d) o (decrypted-laid nk d k x ts)
+
 -- preparation: key shares, and an output of n · 16 · (Nr + 1) bytes; it has no input that could be refused with 3
 unfoldable pub Prepare-outcome : (order : ℕ) (key tape output : List ℕ) → Outcome
 Prepare-outcome d k ts o =
@@ -58,7 +64,7 @@ abbrev pub after : (n : ℕ) → Outcome → Outcome
 after n (done k q) = done (n + k) q
 after n (refused r q) = refused r q
 
--- ---- the tests of an encryption, by its route: from key shares in a single call, or from prepared keys
+-- ---- the tests of a call for one block, by its route: from key shares in a single call, or from prepared keys
 
 -- how many words the key has
 abbrev pub words-by : Route → (d length : ℕ) → ℕ

@@ -1,4 +1,4 @@
-// The tests of an encryption of one block, by either route, on lengths alone. Documents 01 and 02 decide; they stand here once.
+// The tests of a call for one block, encryption by either route or decryption, on lengths alone. Documents 01 and 02 decide; they stand here once.
 ghost use mathlib.Core.Path.{_≡_};
 ghost use Prim.Native.Nat.{_≤_};
 ghost use Rattle.aes.specs.Fits.{Key-size};
@@ -20,7 +20,7 @@ fn words(route: Route, d: usize, length: usize) -> usize
     }
 }
 
-// How many tape bytes the encryption draws.
+// How many tape bytes the block draws.
 fn need(route: Route, nk: usize, d: usize) -> usize
     requires { ⌜ (d ≤ 8) × Key-size nk ⌝ }
     ensures { λ r. ⌜ r ≡ need-by route nk d ⌝ }
@@ -31,7 +31,7 @@ fn need(route: Route, nk: usize, d: usize) -> usize
     }
 }
 
-// Refusals 1 to 5, the first that applies, or the tape bytes that the encryption will take.
+// Refusals 1 to 5, the first that applies, or the tape bytes that the block will take.
 pub fn answer(
     route: Route,
     order: usize,

@@ -26,7 +26,7 @@ pub fn schedule_need(nk: usize, d: usize) -> usize
     key_boxes(nk) * sbox::boxes::box_need(d)
 }
 
-// How many bytes the rounds draw: 16 S-boxes each.
+// How many bytes the rounds draw, either way: 16 S-boxes each.
 pub fn rounds_need(nk: usize, d: usize) -> usize
     requires { ⌜ (d ≤ 8) × Key-size nk ⌝ }
     ensures { λ r. ⌜ (r ≡ Cipher.encrypted-with-need nk d) × (r ≤ 35840) ⌝ }
@@ -34,7 +34,7 @@ pub fn rounds_need(nk: usize, d: usize) -> usize
     16 * (nk + 6) * sbox::boxes::box_need(d)
 }
 
-// How many bytes an encryption draws, with its key expansion.
+// How many bytes an encryption or decryption draws, with its key expansion.
 pub fn cipher_need(nk: usize, d: usize) -> usize
     requires { ⌜ (d ≤ 8) × Key-size nk ⌝ }
     ensures { λ r. ⌜ r ≡ Cipher.cipher-need nk d ⌝ }

@@ -5,6 +5,7 @@ ghost use Rattle.aes.specs.Calls.{Prepare-outcome, Encrypt-prepared-outc
 use crate::Route;
 use crate::needs;
 use crate::sizes;
+use gf256::Direction;
 use shares::Answer;
 use shares::Refusal;
 
@@ -54,5 +55,13 @@ pub fn encrypt_prepared(
         return answer;
     };
     let nk = sizes::prepared_words(order, prepared.len());
-    Answer::Taken(crate::rounds::rounds_core(nk, order, prepared, input, tape, output))
+    Answer::Taken(crate::rounds::rounds_core(
+        Direction::Forward,
+        nk,
+        order,
+        prepared,
+        input,
+        tape,
+        output,
+    ))
 }

@@ -9,10 +9,10 @@ use lib.ListN.{length, drop}
 use Rattle.xor.specs.Sums.{xors}
 use Rattle.shares.specs.Strings.{Shares, Shared, joined-string, laid, parts, split, split-need}
 use Rattle.shares.proofs.StringsLaws.{parts-laid, shared-parts, shared-split, split-joins}
-use Rattle.cipher.specs.Fips197.{rounds, total-words, key-expansion, add-round-key, rounds-from, cipher-with, cipher}
-use Rattle.cipher.specs.Cipher.{schedule, schedule-need, round-keys, encrypted-with, encrypted, prepared-laid, encrypted-with-laid, encrypted-laid}
+use Rattle.cipher.specs.Fips197.{rounds, total-words, key-expansion, add-round-key, rounds-from, cipher-with, cipher, inv-rounds, inv-cipher-with, inv-cipher}
+use Rattle.cipher.specs.Cipher.{schedule, schedule-need, round-keys, encrypted-with, encrypted, decrypted-with, decrypted, prepared-laid, encrypted-with-laid, encrypted-laid, decrypted-laid}
 use Rattle.cipher.proofs.StatesLaws.{adds-shared, adds-joins}
-use Rattle.cipher.proofs.CipherLaws.{schedule-from-shared, schedule-from-joins, round-keys-shared, round-keys-join, rounds-shared, rounds-join}
+use Rattle.cipher.proofs.CipherLaws.{schedule-from-shared, schedule-from-joins, round-keys-shared, round-keys-join, rounds-shared, rounds-join, inv-rounds-shared, inv-rounds-join}
 
 -- ---- key expansion
 
@@ -60,7 +60,37 @@ cipher-joins nk {d} {x = x} ts some-words hk hx =
     encrypted-with-joins nk (drop (schedule-need nk d) ts) (omega arith) (schedule-shared nk ts some-words hk) hx
     ∙ ap (λ (ks : List ℕ). cipher-with nk ks (joined-string x)) (schedule-joins nk ts some-words hk)
 
--- the rule on the layout of the routines, share after share
+-- ---- decryption, from any round keys in shares and from a key
+
+-- its shape
+pub decrypted-with-shared : (nk : ℕ) {l d : ℕ} {ks x : Shares} (ts : List ℕ) → 16 * suc (rounds nk) ≤ l → Shared l d ks → Shared 16 d x
+    → Shared 16 d (decrypted-with nk d ks x ts)
+unfolding decrypted-with rounds
+decrypted-with-shared nk ts h keys hx = inv-rounds-shared keys (nk + 6 - 1) ts (omega arith) (adds-shared hx (round-keys-shared (nk + 6) (omega arith) keys))
+
+-- it joins to the inverse rounds of FIPS 197, with what the keys join to as round keys
+decrypted-with-joins : (nk : ℕ) {l d : ℕ} {ks x : Shares} (ts : List ℕ) → 16 * suc (rounds nk) ≤ l → Shared l d ks → Shared 16 d x
+    → joined-string (decrypted-with nk d ks x ts) ≡ inv-cipher-with nk (joined-string ks) (joined-string x)
+unfolding decrypted-with inv-cipher-with add-round-key rounds
+decrypted-with-joins nk {ks = ks} {x = x} ts h keys hx =
+    inv-rounds-join keys (nk + 6 - 1) ts (omega arith) (adds-shared hx (round-keys-shared (nk + 6) (omega arith) keys))
+    ∙ ap (inv-rounds (nk + 6 - 1) (joined-string ks)) (adds-joins x (round-keys ks (nk + 6)) ∙ ap (xors (joined-string x)) (round-keys-join (nk + 6) keys))
+
+pub decrypted-shared : (nk : ℕ) {d : ℕ} {k x : Shares} (ts : List ℕ) → 1 ≤ nk → Shared (4 * nk) d k → Shared 16 d x → Shared 16 d (decrypted nk d k x ts)
+unfolding decrypted
+decrypted-shared nk {d} ts some-words hk hx = decrypted-with-shared nk (drop (schedule-need nk d) ts) (omega arith) (schedule-shared nk ts some-words hk) hx
+
+-- THE RULE: the shares of the output join to the inverse cipher of what the key's and the input's join to
+pub inv-cipher-joins : (nk : ℕ) {d : ℕ} {k x : Shares} (ts : List ℕ) → 1 ≤ nk → Shared (4 * nk) d k → Shared 16 d x
+    → joined-string (decrypted nk d k x ts) ≡ inv-cipher nk (joined-string k) (joined-string x)
+unfolding decrypted inv-cipher
+inv-cipher-joins nk {d} {x = x} ts some-words hk hx =
+    decrypted-with-joins nk (drop (schedule-need nk d) ts) (omega arith) (schedule-shared nk ts some-words hk) hx
+    ∙ ap (λ (ks : List ℕ). inv-cipher-with nk ks (joined-string x)) (schedule-joins nk ts some-words hk)
+
+-- ---- the rules on the layout of the routines, share after share
+
+-- encryption
 pub cipher-joins-laid : (nk d : ℕ) (k x ts : List ℕ) → 1 ≤ nk → length k ≡ (d + 1) * (4 * nk) → length x ≡ (d + 1) * 16
     → joined-string (parts (d + 1) 16 (encrypted-laid nk d k x ts))
     ≡ cipher nk (joined-string (parts (d + 1) (4 * nk) k)) (joined-string (parts (d + 1) 16 x))
@@ -70,6 +100,17 @@ cipher-joins-laid nk d k x ts some-words lk lx =
     let hk = shared-parts d (4 * nk) k (omega arith) in
     let hx = shared-parts d 16 x (omega arith) in
     rw add-one (ap joined-string (parts-laid (encrypted-shared nk ts some-words hk hx)) ∙ cipher-joins nk ts some-words hk hx)
+
+-- decryption
+pub inv-cipher-joins-laid : (nk d : ℕ) (k x ts : List ℕ) → 1 ≤ nk → length k ≡ (d + 1) * (4 * nk) → length x ≡ (d + 1) * 16
+    → joined-string (parts (d + 1) 16 (decrypted-laid nk d k x ts))
+    ≡ inv-cipher nk (joined-string (parts (d + 1) (4 * nk) k)) (joined-string (parts (d + 1) 16 x))
+unfolding decrypted-laid
+inv-cipher-joins-laid nk d k x ts some-words lk lx =
+    let lk′ = rw add-one at lk in
+    let hk = shared-parts d (4 * nk) k (omega arith) in
+    let hx = shared-parts d 16 x (omega arith) in
+    rw add-one (ap joined-string (parts-laid (decrypted-shared nk ts some-words hk hx)) ∙ inv-cipher-joins nk ts some-words hk hx)
 
 -- prepared keys join to the round keys of FIPS 197
 pub prepared-joins-laid : (nk d : ℕ) (k ts : List ℕ) → 1 ≤ nk → length k ≡ (d + 1) * (4 * nk)

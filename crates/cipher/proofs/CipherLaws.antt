@@ -1,4 +1,4 @@
--- The steps of masked key expansion and encryption: their shapes, and that they join to the steps of FIPS 197, on every tape. `Accuracy` has
+-- The steps of masked key expansion, encryption and decryption: their shapes, and that they join to the steps of FIPS 197, on every tape. `Accuracy` has
 -- what follows. Assumes nothing.
 use mathlib.Core.Path.{_≡_, refl, ap, ap₂, _∙_, subst}
 use mathlib.Core.List.{List, [], _∷_, _++_, map}
@@ -7,49 +7,54 @@ use native.Mathlib.Omega.{arith}
 use lib.ListN.{set, drop}
 use Rattle.xor.specs.Lists.{at}
 use Rattle.xor.specs.Sums.{xors}
-use Rattle.gf256.specs.Field.{s-box}
+use Rattle.gf256.specs.declared.Direction.{Direction}
+use Rattle.gf256.specs.declared.Direction.the-variants.{Forward, Inverse}
+use Rattle.gf256.specs.Ways.{s-box-of}
 use Rattle.shares.specs.Strings.{Shares, Shared, joined-string}
 use Rattle.shares.proofs.StringsLaws.{length-joined}
-use Rattle.sbox.specs.Box.{box, box-need}
-use Rattle.sbox.proofs.BoxLaws.{length-box, box-joins}
-use Rattle.cipher.specs.Fips197.{Kind, turned, subbed, plain, kind, temp, next-word, word, sub-word, rot-word, rcon, expanded-from, round-key, sub-bytes, shift-rows, mix-columns, add-round-key, full-round, last-round, rounds-from}
+use Rattle.sbox.specs.Box.{box-of, box-need}
+use Rattle.sbox.proofs.BoxLaws.{length-box-of, box-of-joins}
+use Rattle.cipher.specs.Fips197.{Kind, turned, subbed, plain, kind, temp, next-word, word, sub-word, rot-word, rcon, expanded-from, round-key, sub-bytes, shift-rows, mix-columns, add-round-key, full-round, last-round, rounds-from, inv-shift-rows, inv-sub-bytes, inv-mix-columns, inv-last-round, inv-round, inv-rounds}
 use Rattle.cipher.specs.States.{column, behind}
-use Rattle.cipher.specs.Cipher.{sub-at, subs, in-word, masked-temp, temp-need, words, masked-word, schedule-from, by-rows, round-keys, masked-round, masked-last-round, round-need, masked-rounds}
+use Rattle.cipher.specs.Cipher.{sub-at, subs-of, subs, inv-subs, in-word, masked-temp, temp-need, words, masked-word, schedule-from, by-rows, round-keys, masked-round, masked-last-round, round-need, masked-rounds, masked-inv-last-round, masked-inv-round, masked-inv-rounds}
 use Rattle.cipher.proofs.StatesLaws.{column-length, map-shared, put-shared, adds-shared, behind-shared, into-first-shared, column-joins, map-joins, adds-joins, into-first-joins, behind-joins, put-joins}
-use Rattle.cipher.proofs.FipsLaws.{shift-rows-linear, mix-columns-linear, rot-word-linear, word-linear, round-key-linear, shift-rows-length, mix-columns-length, rot-word-length, rcon-length, word-length, round-key-length, replaced, replaced-word, replaced-state, rot-sub}
+use Rattle.cipher.proofs.FipsLaws.{shift-rows-linear, mix-columns-linear, inv-shift-rows-linear, inv-mix-columns-linear, rot-word-linear, word-linear, round-key-linear, shift-rows-length, mix-columns-length, inv-shift-rows-length, inv-mix-columns-length, rot-word-length, rcon-length, word-length, round-key-length, replaced, replaced-word, replaced-state, rot-sub}
 
 -- ---- S-boxes
 
-module _ {l d : ℕ} where
-  sub-at-shared : {ss : Shares} (k : ℕ) (ts : List ℕ) → Shared l d ss → Shared l d (sub-at d k ss ts)
+module _ {l d : ℕ} (w : Direction) where
+  sub-at-shared : {ss : Shares} (k : ℕ) (ts : List ℕ) → Shared l d ss → Shared l d (sub-at w d k ss ts)
   unfolding sub-at
-  sub-at-shared {ss} k ts hs = put-shared k (box d (column k ss) ts) hs
+  sub-at-shared {ss} k ts hs = put-shared k (box-of w d (column k ss) ts) hs
 
   sub-at-joins : {ss : Shares} (k : ℕ) (ts : List ℕ) → Shared l d ss
-      → joined-string (sub-at d k ss ts) ≡ set (joined-string ss) k (s-box (at (joined-string ss) k))
+      → joined-string (sub-at w d k ss ts) ≡ set (joined-string ss) k (s-box-of w (at (joined-string ss) k))
   unfolding sub-at
   sub-at-joins {ss} k ts hs =
-      put-joins k (box d (column k ss) ts) (length-box d (column k ss) ts) hs
-      ∙ ap (set (joined-string ss) k) (box-joins d (column k ss) ts (column-length k hs) ∙ ap s-box (column-joins k ss))
+      put-joins k (box-of w d (column k ss) ts) (length-box-of w d (column k ss) ts) hs
+      ∙ ap (set (joined-string ss) k) (box-of-joins w d (column k ss) ts (column-length k hs) ∙ ap (s-box-of w) (column-joins k ss))
 
-  pub subs-shared : {ss : Shares} (ks ts : List ℕ) → Shared l d ss → Shared l d (subs d ks ss ts)
-  unfolding subs
-  subs-shared [] ts hs = hs
-  subs-shared (k ∷ ks) ts hs = subs-shared ks (drop (box-need d) ts) (sub-at-shared k ts hs)
+  pub subs-of-shared : {ss : Shares} (ks ts : List ℕ) → Shared l d ss → Shared l d (subs-of w d ks ss ts)
+  unfolding subs-of
+  subs-of-shared [] ts hs = hs
+  subs-of-shared (k ∷ ks) ts hs = subs-of-shared ks (drop (box-need d) ts) (sub-at-shared k ts hs)
 
-  subs-join : {ss : Shares} (ks ts : List ℕ) → Shared l d ss → joined-string (subs d ks ss ts) ≡ replaced s-box ks (joined-string ss)
-  unfolding subs replaced
-  subs-join [] ts hs = refl
-  subs-join (k ∷ ks) ts hs = subs-join ks (drop (box-need d) ts) (sub-at-shared k ts hs) ∙ ap (replaced s-box ks) (sub-at-joins k ts hs)
+  subs-of-join : {ss : Shares} (ks ts : List ℕ) → Shared l d ss → joined-string (subs-of w d ks ss ts) ≡ replaced (s-box-of w) ks (joined-string ss)
+  unfolding subs-of replaced
+  subs-of-join [] ts hs = refl
+  subs-of-join (k ∷ ks) ts hs = subs-of-join ks (drop (box-need d) ts) (sub-at-shared k ts hs) ∙ ap (replaced (s-box-of w) ks) (sub-at-joins k ts hs)
 
 module _ {d : ℕ} where
+  pub subs-shared : {l : ℕ} {ss : Shares} (ks ts : List ℕ) → Shared l d ss → Shared l d (subs d ks ss ts)
+  subs-shared = subs-of-shared Forward
+
   sub-word-joins : {ws : Shares} (ts : List ℕ) → Shared 4 d ws → joined-string (subs d in-word ws ts) ≡ sub-word (joined-string ws)
   unfolding sub-word
-  sub-word-joins {ws} ts hs = subs-join in-word ts hs ∙ replaced-word s-box (joined-string ws) (length-joined hs)
+  sub-word-joins {ws} ts hs = subs-of-join Forward in-word ts hs ∙ replaced-word (s-box-of Forward) (joined-string ws) (length-joined hs)
 
-  sub-bytes-join : {s : Shares} (ts : List ℕ) → Shared 16 d s → joined-string (subs d by-rows s ts) ≡ sub-bytes (joined-string s)
-  unfolding sub-bytes
-  sub-bytes-join {s} ts hs = subs-join by-rows ts hs ∙ replaced-state s-box (joined-string s) (length-joined hs)
+  -- the S-boxes of a state, either way
+  rows-joined : {s : Shares} (w : Direction) (ts : List ℕ) → Shared 16 d s → joined-string (subs-of w d by-rows s ts) ≡ map (s-box-of w) (joined-string s)
+  rows-joined {s} w ts hs = subs-of-join w by-rows ts hs ∙ replaced-state (s-box-of w) (joined-string s) (length-joined hs)
 
   -- ---- key expansion
 
@@ -125,7 +130,20 @@ module _ {d : ℕ} where
 
   rows-join : {s : Shares} (ts : List ℕ) → Shared 16 d s
       → joined-string (map shift-rows (subs d by-rows s ts)) ≡ shift-rows (sub-bytes (joined-string s))
-  rows-join ts hs = map-joins shift-rows shift-rows-linear (subs-shared by-rows ts hs) ∙ ap shift-rows (sub-bytes-join ts hs)
+  unfolding sub-bytes
+  rows-join ts hs = map-joins shift-rows shift-rows-linear (subs-shared by-rows ts hs) ∙ ap shift-rows (rows-joined Forward ts hs)
+
+  -- the state of each share shifted first, and then the inverse S-boxes
+  inv-shifted : {s : Shares} → Shared 16 d s → Shared 16 d (map inv-shift-rows s)
+  inv-shifted hs = map-shared inv-shift-rows (λ s e. inv-shift-rows-length s) hs
+
+  pub inv-rows-shared : {s : Shares} (ts : List ℕ) → Shared 16 d s → Shared 16 d (inv-subs d by-rows (map inv-shift-rows s) ts)
+  inv-rows-shared ts hs = subs-of-shared Inverse by-rows ts (inv-shifted hs)
+
+  inv-rows-join : {s : Shares} (ts : List ℕ) → Shared 16 d s
+      → joined-string (inv-subs d by-rows (map inv-shift-rows s) ts) ≡ inv-sub-bytes (inv-shift-rows (joined-string s))
+  unfolding inv-sub-bytes
+  inv-rows-join ts hs = rows-joined Inverse ts (inv-shifted hs) ∙ ap (map (s-box-of Inverse)) (map-joins inv-shift-rows inv-shift-rows-linear hs)
 
   module _ {l : ℕ} {ks : Shares} (keys : Shared l d ks) where
     pub round-shared : {s : Shares} (r : ℕ) (ts : List ℕ) → 16 * r + 16 ≤ l → Shared 16 d s → Shared 16 d (masked-round d r ks s ts)
@@ -140,7 +158,7 @@ module _ {d : ℕ} where
         adds-joins (map mix-columns (map shift-rows (subs d by-rows s ts))) (round-keys ks r)
         ∙ ap₂ xors (map-joins mix-columns mix-columns-linear (rows-shared ts hs) ∙ ap mix-columns (rows-join ts hs)) (round-keys-join r keys)
 
-    last-round-shared : {s : Shares} (r : ℕ) (ts : List ℕ) → 16 * r + 16 ≤ l → Shared 16 d s → Shared 16 d (masked-last-round d r ks s ts)
+    pub last-round-shared : {s : Shares} (r : ℕ) (ts : List ℕ) → 16 * r + 16 ≤ l → Shared 16 d s → Shared 16 d (masked-last-round d r ks s ts)
     unfolding masked-last-round
     last-round-shared r ts h hs = adds-shared (rows-shared ts hs) (round-keys-shared r h keys)
 
@@ -162,3 +180,38 @@ module _ {d : ℕ} where
     rounds-join (suc left) r ts h hs =
         rounds-join left (suc r) (drop (round-need d) ts) (omega arith) (round-shared r ts (omega arith) hs)
         ∙ ap (rounds-from left (suc r) (joined-string ks)) (round-joins r ts hs)
+
+    -- ---- inverse rounds
+
+    pub inv-last-round-shared : {s : Shares} (r : ℕ) (ts : List ℕ) → 16 * r + 16 ≤ l → Shared 16 d s → Shared 16 d (masked-inv-last-round d r ks s ts)
+    unfolding masked-inv-last-round
+    inv-last-round-shared r ts h hs = adds-shared (inv-rows-shared ts hs) (round-keys-shared r h keys)
+
+    inv-last-round-joins : {s : Shares} (r : ℕ) (ts : List ℕ) → Shared 16 d s
+        → joined-string (masked-inv-last-round d r ks s ts) ≡ inv-last-round r (joined-string ks) (joined-string s)
+    unfolding masked-inv-last-round inv-last-round add-round-key
+    inv-last-round-joins {s} r ts hs =
+        adds-joins (inv-subs d by-rows (map inv-shift-rows s) ts) (round-keys ks r) ∙ ap₂ xors (inv-rows-join ts hs) (round-keys-join r keys)
+
+    pub inv-round-shared : {s : Shares} (r : ℕ) (ts : List ℕ) → 16 * r + 16 ≤ l → Shared 16 d s → Shared 16 d (masked-inv-round d r ks s ts)
+    unfolding masked-inv-round masked-inv-last-round
+    inv-round-shared r ts h hs = map-shared inv-mix-columns (λ s e. inv-mix-columns-length s) (inv-last-round-shared r ts h hs)
+
+    inv-round-joins : {s : Shares} (r : ℕ) (ts : List ℕ) → 16 * r + 16 ≤ l → Shared 16 d s
+        → joined-string (masked-inv-round d r ks s ts) ≡ inv-round r (joined-string ks) (joined-string s)
+    unfolding masked-inv-round masked-inv-last-round inv-round inv-last-round
+    inv-round-joins r ts h hs =
+        map-joins inv-mix-columns inv-mix-columns-linear (inv-last-round-shared r ts h hs) ∙ ap inv-mix-columns (inv-last-round-joins r ts hs)
+
+    pub inv-rounds-shared : {s : Shares} (r : ℕ) (ts : List ℕ) → 16 * r + 16 ≤ l → Shared 16 d s → Shared 16 d (masked-inv-rounds r d ks s ts)
+    unfolding masked-inv-rounds
+    inv-rounds-shared zero ts h hs = inv-last-round-shared 0 ts h hs
+    inv-rounds-shared (suc r) ts h hs = inv-rounds-shared r (drop (round-need d) ts) (omega arith) (inv-round-shared (suc r) ts h hs)
+
+    pub inv-rounds-join : {s : Shares} (r : ℕ) (ts : List ℕ) → 16 * r + 16 ≤ l → Shared 16 d s
+        → joined-string (masked-inv-rounds r d ks s ts) ≡ inv-rounds r (joined-string ks) (joined-string s)
+    unfolding masked-inv-rounds inv-rounds
+    inv-rounds-join zero ts h hs = inv-last-round-joins 0 ts hs
+    inv-rounds-join (suc r) ts h hs =
+        inv-rounds-join r (drop (round-need d) ts) (omega arith) (inv-round-shared (suc r) ts h hs)
+        ∙ ap (inv-rounds r (joined-string ks)) (inv-round-joins (suc r) ts h hs)

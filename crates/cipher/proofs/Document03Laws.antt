@@ -15,6 +15,7 @@ use Rattle.xor.specs.Lists.{at, tab, runs, All, done, _&_, Below}
 use Rattle.xor.proofs.DigitLaws.{two-pos, digit-cases}
 use Rattle.xor.proofs.ListsLaws.{tab-cong}
 use Rattle.xor.proofs.Tests.{true-T, or-cases}
+use Rattle.gf256.specs.declared.Direction.the-variants.{Forward}
 use Rattle.gf256.specs.Field.{times, squared, fourth, sixteenth, affine, constant}
 use Rattle.gf256.proofs.AffineLaws.{affine-lt}
 use Rattle.isw.specs.Place.{product-need}
@@ -26,11 +27,11 @@ use Rattle.shares.specs.Refresh.{into, stirred, refresh-pairs, refreshed, refre
 use Rattle.shares.specs.Strings.{Shares, Shared}
 use Rattle.shares.proofs.RefreshLaws.{refresh-need-is, length-refreshed}
 use Rattle.shares.proofs.StringsLaws.{shared-parts}
-use Rattle.sbox.specs.Box.{masked-product, stage-z, stage-y, stage-w, stage-v, stage-last, stage-need, power-254, corrected, box, box-need}
-use Rattle.sbox.proofs.BoxLaws.{length-box, box-need-is}
+use Rattle.sbox.specs.Box.{masked-product, stage-z, stage-y, stage-w, stage-v, stage-last, stage-need, power-254, corrected, affine-shares, box, box-need}
+use Rattle.sbox.proofs.BoxLaws.{length-box-of, box-need-is}
 use Rattle.cipher.specs.Fips197.{Kind, turned, subbed, plain, kind, shift-rows, mix-columns, rot-word, rounds, total-words}
 use Rattle.cipher.specs.States.{column, put, adds, behind}
-use Rattle.cipher.specs.Cipher.{sub-at, subs, subs-need, in-word, masked-temp, temp-need, words, masked-word, schedule-from, schedule, schedule-need, by-rows, round-keys, masked-round, masked-last-round, round-need, masked-rounds, encrypted-with, encrypted, cipher-need, encrypted-laid}
+use Rattle.cipher.specs.Cipher.{sub-at, subs-of, subs, subs-need, in-word, masked-temp, temp-need, words, masked-word, schedule-from, schedule, schedule-need, by-rows, round-keys, masked-round, masked-last-round, round-need, masked-rounds, encrypted-with, encrypted, cipher-need, encrypted-laid}
 use Rattle.cipher.specs.Document03 as D
 use Rattle.cipher.proofs.StatesLaws.{column-length, map-shared, put-shared, adds-shared}
 use Rattle.cipher.proofs.FipsLaws.{mix-columns-length, every, in-word-below, by-rows-below}
@@ -133,15 +134,15 @@ unfolding D.into-first into at
 into-first-is [] = refl
 into-first-is (y ∷ ys) = refl
 
-corrected-is : (d : ℕ) (ys : List ℕ) → cond (eqb (suc d % 2) 0) (D.into-first 99 ys) ys ≡ corrected (d % 2) ys
+corrected-is : (d : ℕ) (ys : List ℕ) → cond (eqb (suc d % 2) 0) (D.into-first 99 ys) ys ≡ corrected constant (d % 2) ys
 unfolding corrected
 corrected-is d ys =
     let e : suc d % 2 ≡ suc (d % 2) % 2 = omega arith in
-    rw e (digit-cases (λ (c : ℕ). cond (eqb (suc c % 2) 0) (D.into-first 99 ys) ys ≡ corrected c ys) refl (into-first-is ys) (d % 2) (mod-lt d two-pos))
+    rw e (digit-cases (λ (c : ℕ). cond (eqb (suc c % 2) 0) (D.into-first 99 ys) ys ≡ corrected constant c ys) refl (into-first-is ys) (d % 2) (mod-lt d two-pos))
 
 -- THE S-BOX, share by share
 pub box-agrees : (d : ℕ) (x ts : List ℕ) → length x ≡ suc d → D.box x ts ≡ box d x ts
-unfolding D.box box
+unfolding D.box box affine-shares
 box-agrees d x ts l =
     let y = each-is affine (D.power-254 x ts) ∙ ap (map affine) (power-254-agrees d x ts l) in
     rw (l, y) (corrected-is d (map affine (power-254 d x ts)))
@@ -178,12 +179,12 @@ placed d [] xs ts = xs
 placed d (k ∷ ks) xs ts = placed d ks (set xs k (D.box (D.sh xs k) ts)) (drop (D.box-tape d) ts)
 
 subs-placed : {l d : ℕ} {ss : Shares} {ks : List ℕ} (ts : List ℕ) → Below l ks → Shared l d ss → placed d ks (bytes l ss) ts ≡ bytes l (subs d ks ss ts)
-unfolding placed subs sub-at
+unfolding placed subs-of sub-at
 subs-placed ts done hs = refl
 subs-placed {l} {d} {ss} ts (_&_ {x = k} {xs = ks} h gs) hs =
     let vs = box d (column k ss) ts in
     let b : D.box (D.sh (bytes l ss) k) ts ≡ vs = ap (λ (x : List ℕ). D.box x ts) (bytes-at l ss k h) ∙ box-agrees d (column k ss) ts (column-length k hs) in
-    let s : set (bytes l ss) k vs ≡ bytes l (put ss k vs) = sym (bytes-put k vs h (length-box d (column k ss) ts) hs) in
+    let s : set (bytes l ss) k vs ≡ bytes l (put ss k vs) = sym (bytes-put k vs h (length-box-of Forward d (column k ss) ts) hs) in
     rw (b, s, box-tape d) (subs-placed (drop (box-need d) ts) gs (put-shared k vs hs))
 
 placed-word : (d : ℕ) (ts : List ℕ) (xs : D.Shared) → length xs ≡ 4 → D.boxes d xs ts ≡ placed d in-word xs ts

@@ -1,16 +1,18 @@
 -- The steps of FIPS 197: which are linear, their lengths, and that S-boxes byte after byte are SubBytes, in any of the orders used. Assumes nothing.
 use mathlib.Core.Path.{_≡_, refl, ap, _∙_}
 use mathlib.Core.List.{List, [], _∷_, map}
-use Prim.Native.Nat.{ℕ, zero, suc, _+_, _*_, _/_, _%_, _≤_, _<_}
+use Prim.Native.Nat.{ℕ, zero, suc, _+_, _*_, _-_, _/_, _%_, _≤_, _<_}
 use native.Mathlib.Omega.{arith}
 use lib.ListN.{length, set, take, drop, length-take, length-drop}
 use lib.Dec.{lit<}
 use Rattle.xor.specs.Lists.{at, tab, runs, done, _&_, Below}
 use Rattle.xor.proofs.StringLaws.{at-xors}
-use Rattle.gf256.specs.Field.{mixed}
-use Rattle.gf256.proofs.ColumnLaws.{mixed-xor}
+use Rattle.gf256.specs.declared.Direction.{Direction}
+use Rattle.gf256.specs.declared.Direction.the-variants.{Forward, Inverse}
+use Rattle.gf256.specs.Ways.{mixed-of}
+use Rattle.gf256.proofs.ColumnLaws.{mixed-of-xor}
 use Rattle.gf256.proofs.TableTest.{alike}
-use Rattle.cipher.specs.Fips197.{cell, state, shift-rows, mix-columns, word, sub-word, rot-word, rcon, round-key}
+use Rattle.cipher.specs.Fips197.{cell, state, shift-rows, mix-columns, word, sub-word, rot-word, rcon, round-key, inv-shift-rows, inv-mix-columns}
 use Rattle.cipher.specs.Cipher.{in-word, by-rows}
 use Rattle.cipher.proofs.StringLaws.{take-xors, drop-xors, Linear, Reading, linear-tab}
 
@@ -28,17 +30,28 @@ pub shift-rows-linear : Linear shift-rows
 unfolding shift-rows
 shift-rows-linear = state-linear (λ s r c. cell s r (c + r)) (λ r c. cell-reads r (c + r))
 
-pub mix-columns-linear : Linear mix-columns
-unfolding mix-columns
-mix-columns-linear =
-    state-linear (λ s r c. mixed (cell s r c) (cell s (r + 1) c) (cell s (r + 2) c) (cell s (r + 3) c))
+pub inv-shift-rows-linear : Linear inv-shift-rows
+unfolding inv-shift-rows
+inv-shift-rows-linear = state-linear (λ s r c. cell s r (c + (4 - r))) (λ r c. cell-reads r (c + (4 - r)))
+
+mixing-linear : (w : Direction) → Linear (λ s. state (λ r c. mixed-of w (cell s r c) (cell s (r + 1) c) (cell s (r + 2) c) (cell s (r + 3) c)))
+mixing-linear w =
+    state-linear (λ s r c. mixed-of w (cell s r c) (cell s (r + 1) c) (cell s (r + 2) c) (cell s (r + 3) c))
     (λ r c s t.
     let e₀ = cell-reads r c s t in
     let e₁ = cell-reads (r + 1) c s t in
     let e₂ = cell-reads (r + 2) c s t in
     let e₃ = cell-reads (r + 3) c s t in
     rw (e₀, e₁, e₂, e₃)
-    (mixed-xor (cell s r c) (cell s (r + 1) c) (cell s (r + 2) c) (cell s (r + 3) c) (cell t r c) (cell t (r + 1) c) (cell t (r + 2) c) (cell t (r + 3) c)))
+    (mixed-of-xor w (cell s r c) (cell s (r + 1) c) (cell s (r + 2) c) (cell s (r + 3) c) (cell t r c) (cell t (r + 1) c) (cell t (r + 2) c) (cell t (r + 3) c)))
+
+pub mix-columns-linear : Linear mix-columns
+unfolding mix-columns
+mix-columns-linear = mixing-linear Forward
+
+pub inv-mix-columns-linear : Linear inv-mix-columns
+unfolding inv-mix-columns
+inv-mix-columns-linear = mixing-linear Inverse
 
 pub rot-word-linear : Linear rot-word
 unfolding rot-word
@@ -64,6 +77,14 @@ shift-rows-length s = refl
 pub mix-columns-length : (s : List ℕ) → length (mix-columns s) ≡ 16
 unfolding mix-columns state tab runs
 mix-columns-length s = refl
+
+pub inv-shift-rows-length : (s : List ℕ) → length (inv-shift-rows s) ≡ 16
+unfolding inv-shift-rows state tab runs
+inv-shift-rows-length s = refl
+
+pub inv-mix-columns-length : (s : List ℕ) → length (inv-mix-columns s) ≡ 16
+unfolding inv-mix-columns state tab runs
+inv-mix-columns-length s = refl
 
 pub rot-word-length : (w : List ℕ) → length (rot-word w) ≡ 4
 unfolding rot-word tab runs

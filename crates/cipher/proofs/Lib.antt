@@ -3,6 +3,7 @@ pub mod StatesLaws
 pub mod FipsLaws
 pub mod CipherLaws
 pub mod Accuracy
+pub mod InverseCipherLaws
 pub mod NeedLaws
 pub mod SurplusLaws
 pub mod SmallValues

@@ -9,7 +9,7 @@ use Rattle.isw.specs.Place.{before-row, product-need}
 use Rattle.shares.specs.Refresh.{refresh-pairs, refresh-need}
 use Rattle.sbox.specs.Box.{stage-need, box-need}
 use Rattle.cipher.specs.Fips197.{kind, rounds, total-words}
-use Rattle.cipher.specs.Cipher.{subs-need, temp-need, schedule-from-need, schedule-need, rounds-need, encrypted-with-need, cipher-need}
+use Rattle.cipher.specs.Cipher.{subs-need, temp-need, schedule-from-need, schedule-need, round-need, rounds-need, encrypted-with-need, cipher-need}
 
 -- ---- key expansion: 40, 32 and 52 S-boxes
 
@@ -26,6 +26,10 @@ unfolding schedule-need schedule-from-need temp-need kind subs-need rounds total
 schedule-need-8 d = omega arith
 
 -- ---- rounds: 16 S-boxes each
+
+pub round-need-is : (d : ℕ) → round-need d ≡ 16 * box-need d
+unfolding subs-need
+round-need-is d = omega arith
 
 rounds-need-is : (left d : ℕ) → rounds-need left d ≡ suc left * (16 * box-need d)
 unfolding rounds-need subs-need

@@ -1,11 +1,12 @@
--- Affine maps by rows and a constant: additive up to the constant, share by share too. Af by its rows is Af by FIPS 197's five bits. Assumes nothing.
+-- Affine maps by rows and a constant: additive up to the constant, share by share too. Af and its inverse undo each other; by their rows they are what
+-- FIPS 197 and document 02 have bit by bit. Assumes nothing.
 use mathlib.Core.Path.{_≡_, refl, sym, ap, ap₂, _∙_}
 use mathlib.Core.List.{List, [], _∷_, map}
 use Prim.Native.Nat.{ℕ, suc, _+_, _/_, _%_, _^_, _<_, _≤_}
 use native.Mathlib.Nat.{mod-lt, mod-eq-of-lt}
 use native.Mathlib.Omega.{arith}
 use lib.Arith.{bin-ind}
-use lib.Dec.{lit<, lit≤}
+use lib.Dec.{eqb, lit<, lit≤}
 use lib.ListN.{length}
 use lib.Pow.{pow-pos, pow-lt}
 use lib.Count.{ones, onesIn, ones-step}
@@ -15,9 +16,12 @@ use Rattle.xor.specs.Additive.{Additive}
 use Rattle.xor.specs.Sums.{joined}
 use Rattle.xor.proofs.DigitLaws.{two-pos, digit-cases, digit-sum, xor-half, xor-odd, if-set-zero, if-set-one, if-set-sum, if-set-lt}
 use Rattle.xor.proofs.XorLaws.{xor-four, xor-sums, and-xor}
-use Rattle.xor.proofs.AdditiveLaws.{additive-zero}
-use Rattle.gf256.specs.Field.{parity, rows-from, linear-by, affine-by, rows, affine, bit, affine-bit, affine-from, affine-by-bits}
-use Rattle.gf256.proofs.TableTest.{alike}
+use Rattle.xor.proofs.AdditiveLaws.{additive-zero, additive-after, additive-agree}
+use Rattle.gf256.specs.Field.{parity, rows-from, linear-by, affine-by, rows, affine, inverse-rows, inverse-affine, bit, affine-bit, affine-from, affine-by-bits, inverse-affine-bit}
+use Rattle.gf256.specs.Ways.{rows-of, constant-of, affine-of}
+use Rattle.gf256.specs.declared.Direction.{Direction}
+use Rattle.gf256.specs.declared.Direction.the-variants.{Forward, Inverse}
+use Rattle.gf256.proofs.TableTest.{all, all-at, alike}
 
 -- ---- parity
 
@@ -118,3 +122,45 @@ affine-lt a = affine-by-lt rows 0x63 a (lit≤ tt) (lit< tt)
 pub affine-agrees : (a : ℕ) → a < 256 → affine a ≡ affine-by-bits a
 unfolding affine affine-by linear-by rows rows-from parity ones onesIn if-set affine-by-bits affine-from affine-bit bit
 affine-agrees = alike affine affine-by-bits 256 tt
+
+-- ---- both directions
+
+pub affine-of-by : (w : Direction) (a : ℕ) → affine-of w a ≡ affine-by (rows-of w) (constant-of w) a
+unfolding affine inverse-affine
+affine-of-by Forward a = refl
+affine-of-by Inverse a = refl
+
+pub affine-of-lt : (w : Direction) (a : ℕ) → affine-of w a < 256
+unfolding inverse-affine inverse-rows
+affine-of-lt Forward a = affine-lt a
+affine-of-lt Inverse a = affine-by-lt inverse-rows 0x05 a (lit≤ tt) (lit< tt)
+
+-- a map undoes another if its linear part does so at the powers of two and sends the other's constant to its own
+undone : (ms ns : List ℕ) (c e : ℕ) → linear-by ns c ≡ e → ((i : ℕ) → i < 8 → linear-by ns (linear-by ms (2 ^ i)) ≡ 2 ^ i)
+    → (a : ℕ) → a < 256 → affine-by ns e (affine-by ms c a) ≡ a
+unfolding affine-by
+undone ms ns c e h basis a l =
+    ap (λ (n : ℕ). bitXor n e) (linear-by-xor ns (linear-by ms a) c ∙ ap (bitXor (linear-by ns (linear-by ms a))) h)
+    ∙ twice (linear-by ns (linear-by ms a)) e
+    ∙ additive-agree (λ x. linear-by ns (linear-by ms x)) (λ x. x) (additive-after (linear-by ns) (linear-by ms) (linear-by-xor ns) (linear-by-xor ms))
+    (λ x y. refl) 8 basis a l
+  where
+    twice : (x y : ℕ) → bitXor (bitXor x y) y ≡ x
+    twice x y = simp xor-sums
+
+pub inverse-affine-affine : (a : ℕ) → a < 256 → inverse-affine (affine a) ≡ a
+unfolding inverse-affine affine linear-by rows inverse-rows rows-from parity ones onesIn if-set
+inverse-affine-affine =
+    undone rows inverse-rows 0x63 0x05 refl (alike (λ i. linear-by inverse-rows (linear-by rows (2 ^ i))) (λ i. 2 ^ i) 8 tt)
+
+pub affine-inverse-affine : (a : ℕ) → a < 256 → affine (inverse-affine a) ≡ a
+unfolding inverse-affine affine linear-by rows inverse-rows rows-from parity ones onesIn if-set
+affine-inverse-affine =
+    undone inverse-rows rows 0x05 0x63 refl (alike (λ i. linear-by rows (linear-by inverse-rows (2 ^ i))) (λ i. 2 ^ i) 8 tt)
+
+-- the inverse map by rows as by bits: one test over the 8 bits of the 256 bytes
+pub inverse-affine-bits : (a i : ℕ) → a < 256 → i < 8 → bit (inverse-affine a) i ≡ inverse-affine-bit a i
+unfolding inverse-affine affine-by linear-by inverse-rows rows-from parity ones onesIn if-set inverse-affine-bit bit
+inverse-affine-bits a i ha hi =
+    alike (bit (inverse-affine a)) (inverse-affine-bit a) 8
+    (all-at (λ a. all 8 (λ i. eqb (bit (inverse-affine a) i) (inverse-affine-bit a i))) 256 tt a ha) i hi

@@ -1,2 +1,3 @@
 pub mod Field
+pub mod Ways
 pub mod Document03

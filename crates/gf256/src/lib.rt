@@ -1,15 +1,22 @@
-// Bytes as elements of AES's field: products, powers, the affine map of the S-box, one column of MixColumns.
-// Document 01, "Bytes as field elements", decides; specs/Field.antt has the definitions that the contracts name.
+// Bytes as elements of AES's field: products, powers, the affine maps of the S-boxes, one column of MixColumns and of InvMixColumns.
+// Document 01, "Bytes as field elements", and document 02, wish 2, decide; specs/Field.antt has the definitions that the contracts name.
 mod affine_map;
 mod columns;
 mod powers;
 mod product;
 
 pub use affine_map::affine;
-pub use columns::mix;
+pub use affine_map::constant;
+pub use columns::mix_by;
 pub use columns::mix_column;
 pub use powers::fourth;
 pub use powers::sixteenth;
 pub use powers::squared;
 pub use product::double;
 pub use product::times;
+
+// Which way AES runs: by the cipher of FIPS 197, or by its inverse cipher.
+pub enum Direction {
+    Forward,
+    Inverse,
+}

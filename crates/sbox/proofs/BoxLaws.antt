@@ -1,4 +1,4 @@
--- The masked S-box joins to the plain one; its length, its need, its bytes; surplus tape has no effect. Assumes nothing.
+-- The masked S-box and inverse S-box join to the plain ones; their lengths, their need, their bytes; surplus tape has no effect. Assumes nothing.
 use mathlib.Core.Path.{_≡_, refl, sym, ap, ap₂, _∙_}
 use mathlib.Core.List.{List, [], _∷_, _++_, map}
 use Prim.Native.Nat.{ℕ, zero, suc, _+_, _-_, _*_, _%_, _<_, _≤_}
@@ -14,7 +14,10 @@ use Rattle.xor.specs.Lists.{at, done, _&_, Below}
 use Rattle.xor.specs.Sums.{joined}
 use Rattle.xor.proofs.SumsLaws.{joined-map}
 use Rattle.xor.proofs.XorLaws.{xor-sums}
-use Rattle.gf256.specs.Field.{times, squared, fourth, sixteenth, inverse, linear-by, affine-by, rows, constant, affine, s-box}
+use Rattle.gf256.specs.declared.Direction.{Direction}
+use Rattle.gf256.specs.declared.Direction.the-variants.{Forward, Inverse}
+use Rattle.gf256.specs.Field.{times, squared, fourth, sixteenth, inverse, linear-by, affine-by, rows, constant, affine, s-box, inverse-rows, inverse-constant, inverse-affine, inverse-s-box}
+use Rattle.gf256.specs.Ways.{constant-of, affine-of, s-box-of}
 use Rattle.gf256.proofs.ProductLaws.{times-left, times-right, squared-xor, fourth-xor, sixteenth-xor}
 use Rattle.gf256.proofs.AffineLaws.{joined-affine-by, once-more, affine-lt}
 use Rattle.isw.specs.Place.{product-need}
@@ -23,7 +26,7 @@ use Rattle.isw.proofs.SheetLaws.{length-product, product-surplus}
 use Rattle.isw.proofs.OrderLaws.{twice-need}
 use Rattle.shares.specs.Refresh.{into, refreshed, refresh-need}
 use Rattle.shares.proofs.RefreshLaws.{length-into, joined-into, into-below, length-refreshed, refresh-joins, refresh-need-is, refresh-surplus}
-use Rattle.sbox.specs.Box.{masked-product, stage-z, stage-y, stage-w, stage-v, stage-last, stage-need, power-254, corrected, box, box-need}
+use Rattle.sbox.specs.Box.{masked-product, stage-z, stage-y, stage-w, stage-v, stage-last, stage-need, power-254, corrected, affine-shares, box, inverse-box, box-of, box-need}
 
 -- ---- lengths
 
@@ -31,14 +34,19 @@ pub length-power-254 : (d : ℕ) (x ts : List ℕ) → length (power-254 d x ts)
 unfolding power-254 stage-last
 length-power-254 d x ts = length-product times d _ _ _
 
-pub length-corrected : (i : ℕ) (ys : List ℕ) → length (corrected i ys) ≡ length ys
+length-corrected : (c i : ℕ) (ys : List ℕ) → length (corrected c i ys) ≡ length ys
 unfolding corrected
-length-corrected zero ys = refl
-length-corrected (suc i) ys = length-into ys 0 constant
+length-corrected c zero ys = refl
+length-corrected c (suc i) ys = length-into ys 0 c
 
-pub length-box : (d : ℕ) (x ts : List ℕ) → length (box d x ts) ≡ suc d
-unfolding box
-length-box d x ts = length-corrected (d % 2) (map affine (power-254 d x ts)) ∙ length-map (power-254 d x ts) affine ∙ length-power-254 d x ts
+length-affine-shares : (w : Direction) (d : ℕ) (x : List ℕ) → length (affine-shares w d x) ≡ length x
+unfolding affine-shares
+length-affine-shares w d x = length-corrected (constant-of w) (d % 2) (map (affine-of w) x) ∙ length-map x (affine-of w)
+
+pub length-box-of : (w : Direction) (d : ℕ) (x ts : List ℕ) → length (box-of w d x ts) ≡ suc d
+unfolding box inverse-box
+length-box-of Forward d x ts = length-affine-shares Forward d (power-254 d x ts) ∙ length-power-254 d x ts
+length-box-of Inverse d x ts = length-power-254 d (affine-shares Inverse d x) ts
 
 -- ---- joins
 
@@ -73,29 +81,46 @@ power-254-joins d x ts l =
     let ju = product-joins d (map sixteenth v) w vs (length-map v sixteenth ∙ lv) lw ∙ ap₂ times (joined-map sixteenth sixteenth-xor v ∙ ap sixteenth jv) jw in
     product-joins d (masked-product d (map sixteenth v) w vs) z (drop (product-need d) vs) lu lz ∙ ap₂ times ju jz
 
-corrected-joins : (i : ℕ) (ys : List ℕ) → 0 < length ys → joined (corrected i ys) ≡ bitXor (joined ys) (if-set i constant)
+corrected-joins : (c i : ℕ) (ys : List ℕ) → 0 < length ys → joined (corrected c i ys) ≡ bitXor (joined ys) (if-set i c)
 unfolding corrected if-set
-corrected-joins zero ys h = simp xor-sums
-corrected-joins (suc i) ys h = joined-into ys 0 constant h
+corrected-joins c zero ys h = simp xor-sums
+corrected-joins c (suc i) ys h = joined-into ys 0 c h
 
-opened : (a : ℕ) → bitXor (linear-by rows a) constant ≡ affine-by rows constant a
+opened : (ms : List ℕ) (c a : ℕ) → bitXor (linear-by ms a) c ≡ affine-by ms c a
 unfolding affine-by
-opened a = refl
+opened ms c a = refl
 
-pub box-joins : (d : ℕ) (x ts : List ℕ) → length x ≡ suc d → joined (box d x ts) ≡ s-box (joined x)
-unfolding box s-box affine
-box-joins d x ts l =
-    let y = power-254 d x ts in
-    let ly : length (map affine y) ≡ suc d = length-map y affine ∙ length-power-254 d x ts in
-    corrected-joins (d % 2) (map affine y) (omega arith)
-    ∙ ap (λ (k : ℕ). bitXor k (if-set (d % 2) constant)) (joined-affine-by rows constant y)
-    ∙ ap₂ (λ (k m : ℕ). bitXor (bitXor (linear-by rows k) (if-set (m % 2) constant)) (if-set (d % 2) constant)) (power-254-joins d x ts l) (length-power-254 d x ts)
-    ∙ ap (λ (k : ℕ). bitXor (bitXor (linear-by rows (inverse (joined x))) k) (if-set (d % 2) constant)) (sym (once-more d constant))
-    ∙ last (linear-by rows (inverse (joined x))) (if-set (d % 2) constant) constant
-    ∙ opened (inverse (joined x))
+-- d + 1 shares, each by the map, and the constant once more if d is odd
+mapped-joins : (ms : List ℕ) (c d : ℕ) (x : List ℕ) → length x ≡ suc d → joined (corrected c (d % 2) (map (affine-by ms c) x)) ≡ affine-by ms c (joined x)
+mapped-joins ms c d x l =
+    let lm : length (map (affine-by ms c) x) ≡ suc d = length-map x (affine-by ms c) ∙ l in
+    corrected-joins c (d % 2) (map (affine-by ms c) x) (omega arith)
+    ∙ ap (λ (k : ℕ). bitXor k (if-set (d % 2) c)) (joined-affine-by ms c x)
+    ∙ ap (λ (m : ℕ). bitXor (bitXor (linear-by ms (joined x)) (if-set (m % 2) c)) (if-set (d % 2) c)) l
+    ∙ ap (λ (k : ℕ). bitXor (bitXor (linear-by ms (joined x)) k) (if-set (d % 2) c)) (sym (once-more d c))
+    ∙ last (linear-by ms (joined x)) (if-set (d % 2) c) c
+    ∙ opened ms c (joined x)
   where
     last : (a b c : ℕ) → bitXor (bitXor a (bitXor c b)) b ≡ bitXor a c
     last a b c = simp xor-sums
+
+affine-shares-join : (w : Direction) (d : ℕ) (x : List ℕ) → length x ≡ suc d → joined (affine-shares w d x) ≡ affine-of w (joined x)
+unfolding affine-shares affine inverse-affine
+affine-shares-join Forward d x l = mapped-joins rows constant d x l
+affine-shares-join Inverse d x l = mapped-joins inverse-rows inverse-constant d x l
+
+pub box-of-joins : (w : Direction) (d : ℕ) (x ts : List ℕ) → length x ≡ suc d → joined (box-of w d x ts) ≡ s-box-of w (joined x)
+unfolding box s-box inverse-box inverse-s-box
+box-of-joins Forward d x ts l =
+    affine-shares-join Forward d (power-254 d x ts) (length-power-254 d x ts) ∙ ap affine (power-254-joins d x ts l)
+box-of-joins Inverse d x ts l =
+    power-254-joins d (affine-shares Inverse d x) ts (length-affine-shares Inverse d x ∙ l) ∙ ap inverse (affine-shares-join Inverse d x l)
+
+pub box-joins : (d : ℕ) (x ts : List ℕ) → length x ≡ suc d → joined (box d x ts) ≡ s-box (joined x)
+box-joins = box-of-joins Forward
+
+pub inverse-box-joins : (d : ℕ) (x ts : List ℕ) → length x ≡ suc d → joined (inverse-box d x ts) ≡ inverse-s-box (joined x)
+inverse-box-joins = box-of-joins Inverse
 
 -- ---- the need
 
@@ -103,30 +128,30 @@ pub box-need-is : (d : ℕ) → box-need d ≡ 2 * d * d + 4 * d
 unfolding box-need stage-need
 box-need-is d = omega (arith, refresh-need-is d, twice-need d, mul-suc d d, mul-assoc 2 d d)
 
--- ---- 63 into share 0
+-- ---- the constant into share 0
 
-pub corrected-odd : (i : ℕ) (ys : List ℕ) → i ≡ 1 → set ys 0 (bitXor (getD ys 0 0) constant) ≡ corrected i ys
+pub corrected-odd : (c v i : ℕ) (ys : List ℕ) → v ≡ c → i ≡ 1 → set ys 0 (bitXor (getD ys 0 0) v) ≡ corrected c i ys
 unfolding corrected into at
-corrected-odd i ys e = rw e refl
+corrected-odd c v i ys w e = rw (w, e) refl
 
-pub corrected-even : (i : ℕ) (ys : List ℕ) → i ≡ 0 → ys ≡ corrected i ys
+pub corrected-even : (c i : ℕ) (ys : List ℕ) → i ≡ 0 → ys ≡ corrected c i ys
 unfolding corrected
-corrected-even i ys e = rw e refl
+corrected-even c i ys e = rw e refl
 
 -- ---- bytes
 
-corrected-below : (i : ℕ) {ys : List ℕ} → Below 256 ys → Below 256 (corrected i ys)
+corrected-below : (c i : ℕ) {ys : List ℕ} → c < 256 → Below 256 ys → Below 256 (corrected c i ys)
 unfolding corrected
-corrected-below zero hs = hs
-corrected-below (suc i) hs = into-below 8 0 constant (lit< tt) hs
+corrected-below c zero h hs = hs
+corrected-below c (suc i) h hs = into-below 8 0 c h hs
 
 affine-below : (ys : List ℕ) → Below 256 (map affine ys)
 affine-below [] = done
 affine-below (y ∷ ys) = affine-lt y & affine-below ys
 
 pub box-below : (d : ℕ) (x ts : List ℕ) → Below 256 (box d x ts)
-unfolding box
-box-below d x ts = corrected-below (d % 2) (affine-below (power-254 d x ts))
+unfolding box affine-shares
+box-below d x ts = corrected-below constant (d % 2) (lit< tt) (affine-below (power-254 d x ts))
 
 -- ---- a tape that is longer than need be
 
@@ -173,6 +198,7 @@ module _ (d : ℕ) where
       rw (stage-z-surplus x ts us g, stage-y-surplus x ts us g, drop-append-le n ts us g, stage-w-surplus y rs us k, stage-v-surplus y rs us k, drop-append-le n rs us k)
       (stage-last-surplus (stage-v d y rs) (stage-w d y rs) (stage-z d x ts) (drop n rs) us m)
 
-  pub box-surplus : (x ts us : List ℕ) → box-need d ≤ length ts → box d x (ts ++ us) ≡ box d x ts
-  unfolding box
-  box-surplus x ts us h = ap (λ (l : List ℕ). corrected (d % 2) (map affine l)) (power-254-surplus x ts us h)
+  pub box-of-surplus : (w : Direction) (x ts us : List ℕ) → box-need d ≤ length ts → box-of w d x (ts ++ us) ≡ box-of w d x ts
+  unfolding box inverse-box
+  box-of-surplus Forward x ts us h = ap (affine-shares Forward d) (power-254-surplus x ts us h)
+  box-of-surplus Inverse x ts us h = power-254-surplus (affine-shares Inverse d x) ts us h

@@ -1,35 +1,45 @@
-// The masked S-box: power 254, the affine map on each share, and 63 into share 0 if the order is odd.
+// The masked S-box: power 254, then the affine map over shares. The masked inverse S-box: the inverse affine map over shares, then power 254.
 ghost use mathlib.Core.Path.{_≡_};
 ghost use mathlib.Core.List.{map};
 ghost use Prim.Native.Nat.{_+_, _%_, _≤_, _<_};
 ghost use lib.ListN.{length};
-ghost use Rattle.gf256.specs.Field as Field;
+ghost use Rattle.gf256.specs.Ways.{affine-of, constant-of};
 ghost use Rattle.shares.specs.Outcome.{outcome};
 ghost use Rattle.sbox.specs.Box;
 ghost use Rattle.sbox.specs.Calls.{Box-outcome};
+use gf256::Direction;
 use shares::Answer;
 use shares::Refusal;
 
 // The affine map of each share.
-fn affine_all(x: &mut [u8])
-    ensures { λ _. ⌜ now (x .exit) ≡ map Field.affine (now (x .entry)) ⌝ }
+fn affine_all(which: Direction, x: &mut [u8])
+    ensures { λ _. ⌜ now (x .exit) ≡ map (affine-of which) (now (x .entry)) ⌝ }
 {
     for k in 0..x.len() {
-        x[k] = gf256::affine(x[k]);
+        x[k] = gf256::affine(which, x[k]);
     }
 }
 
-// n affine maps XORed 63 in n times: once more if that was an even number of times.
-fn correct(d: usize, x: &mut [u8])
+// n affine maps XORed the constant in n times: once more if that was an even number of times.
+fn correct(which: Direction, d: usize, x: &mut [u8])
     requires { ⌜ 0 < length (now x) ⌝ }
-    ensures { λ _. ⌜ now (x .exit) ≡ Box.corrected (d % 2) (now (x .entry)) ⌝ }
+    ensures { λ _. ⌜ now (x .exit) ≡ Box.corrected (constant-of which) (d % 2) (now (x .entry)) ⌝ }
 {
     if d % 2 == 1 {
-        x[0] = x[0] ^ 0x63;
+        x[0] = x[0] ^ gf256::constant(which);
     }
 }
 
-// How many bytes an S-box of order d draws.
+// The affine map of a byte in shares.
+fn affine_shares(which: Direction, d: usize, x: &mut [u8])
+    requires { ⌜ 0 < length (now x) ⌝ }
+    ensures { λ _. ⌜ now (x .exit) ≡ Box.affine-shares which d (now (x .entry)) ⌝ }
+{
+    affine_all(which, x);
+    correct(which, d, x);
+}
+
+// How many bytes either S-box of order d draws.
 pub fn box_need(d: usize) -> usize
     requires { ⌜ d ≤ 8 ⌝ }
     ensures { λ r. ⌜ r ≡ Box.box-need d ⌝ }
@@ -38,14 +48,33 @@ pub fn box_need(d: usize) -> usize
 }
 
 // The S-box of the shares of a byte. Answers with how many bytes were drawn.
-pub fn box_core(d: usize, x: &[u8], tape: &[u8], output: &mut [u8]) -> usize
+fn box_core(d: usize, x: &[u8], tape: &[u8], output: &mut [u8]) -> usize
     requires { ⌜ (d ≤ 8) × (length (now x) ≡ d + 1) × (length (now output) ≡ d + 1) × (Box.box-need d ≤ length (now tape)) ⌝ }
     ensures { λ r. ⌜ (r ≡ Box.box-need d) × (now (output .exit) ≡ Box.box d (now (x .entry)) (now (tape .entry))) ⌝ }
 {
     let drawn = crate::powers::power_core(d, x, tape, output);
-    affine_all(output);
-    correct(d, output);
+    affine_shares(Direction::Forward, d, output);
     drawn
+}
+
+// The inverse S-box of the shares of a byte, which are used up. Answers with how many bytes were drawn.
+fn inverse_box_core(d: usize, x: &mut [u8], tape: &[u8], output: &mut [u8]) -> usize
+    requires { ⌜ (d ≤ 8) × (length (now x) ≡ d + 1) × (length (now output) ≡ d + 1) × (Box.box-need d ≤ length (now tape)) ⌝ }
+    ensures { λ r. ⌜ (r ≡ Box.box-need d) × (now (output .exit) ≡ Box.inverse-box d (now (x .entry)) (now (tape .entry))) ⌝ }
+{
+    affine_shares(Direction::Inverse, d, x);
+    crate::powers::power_core(d, x, tape, output)
+}
+
+// The S-box of the direction; the shares in x may be used up. Answers with how many bytes were drawn.
+pub fn box_by(which: Direction, d: usize, x: &mut [u8], tape: &[u8], output: &mut [u8]) -> usize
+    requires { ⌜ (d ≤ 8) × (length (now x) ≡ d + 1) × (length (now output) ≡ d + 1) × (Box.box-need d ≤ length (now tape)) ⌝ }
+    ensures { λ r. ⌜ (r ≡ Box.box-need d) × (now (output .exit) ≡ Box.box-of which d (now (x .entry)) (now (tape .entry))) ⌝ }
+{
+    match which {
+        Direction::Forward => box_core(d, x, tape, output),
+        Direction::Inverse => inverse_box_core(d, x, tape, output),
+    }
 }
 
 pub fn masked_box(order: usize, input: &[u8], tape: &[u8], output: &mut [u8]) -> Answer

@@ -9,7 +9,7 @@ use lib.Bits.{bitXor, xor-lt}
 use lib.ListN.{length, getD, set, drop, length-set}
 use Rattle.xor.specs.Lists.{at, tab, runs, All, done, _&_, Below}
 use Rattle.xor.specs.Sums.{joined}
-use Rattle.xor.proofs.ListsLaws.{length-tab, all-tab, at-below, tab-last}
+use Rattle.xor.proofs.ListsLaws.{length-tab, all-tab, all-drop, at-below, tab-last}
 use Rattle.xor.proofs.SumsLaws.{joined-set}
 use Rattle.xor.proofs.XorLaws.{xor-sums}
 use Rattle.shares.specs.Refresh.{into, stirred, refresh-pairs, refreshed, refresh-need}
@@ -63,16 +63,11 @@ stirred-joins n (_&_ {x = p} h hs) xs ts e =
     twice : (x t : ℕ) → bitXor (bitXor x t) t ≡ x
     twice x t = simp xor-sums
 
-drop-below : (m : ℕ) {xs : List ℕ} (n : ℕ) → Below m xs → Below m (drop n xs)
-drop-below m zero hs = hs
-drop-below m (suc n) done = done
-drop-below m (suc n) (h & hs) = drop-below m n hs
-
 pub stirred-below : (w : ℕ) (ps : List (ℕ × ℕ)) {xs ts : List ℕ} → Below (2 ^ w) xs → Below (2 ^ w) ts → Below (2 ^ w) (stirred ps xs ts)
 unfolding stirred
 stirred-below w [] hs gs = hs
 stirred-below w (p ∷ ps) {xs} {ts} hs gs =
-    stirred-below w ps (into-below w (p .1) (at ts 0) (at-below w gs 0) (into-below w (p .0) (at ts 0) (at-below w gs 0) hs)) (drop-below (2 ^ w) 1 gs)
+    stirred-below w ps (into-below w (p .1) (at ts 0) (at-below w gs 0) (into-below w (p .0) (at ts 0) (at-below w gs 0) hs)) (all-drop 1 gs)
 
 next : (ts : List ℕ) (k : ℕ) → at (drop 1 ts) k ≡ at ts (suc k)
 unfolding at

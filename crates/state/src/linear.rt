@@ -1,4 +1,4 @@
-// The linear steps of FIPS 197, share by share.
+// The linear steps of FIPS 197 and their inverses, share by share.
 ghost use mathlib.Core.Path.{_≡_};
 ghost use mathlib.Core.List.{map};
 ghost use Prim.Native.Nat.{suc, _+_, _*_, _≤_};
@@ -7,30 +7,44 @@ ghost use Rattle.shares.specs.Strings.{parts, laid};
 ghost use Rattle.cipher.specs.Fips197 as Fips197;
 ghost use Rattle.cipher.specs.States.{adds};
 ghost use Rattle.cipher.specs.Cipher.{round-keys};
-ghost use Rattle.state.specs.Steps.{stepped};
+ghost use Rattle.state.specs.Steps.{stepped, turn-of};
+ghost use Rattle.state.specs.declared.Step.the-variants.{ShiftRows, MixColumns};
 use crate::Step;
+use gf256::Direction;
 
-// ShiftRows of a state t into s.
-fn shift_rows(t: &[u8], s: &mut [u8])
+// How many columns to the left row r goes.
+fn turn(which: Direction, r: usize) -> usize
+    requires { ⌜ r ≤ 4 ⌝ }
+    ensures { λ q. ⌜ (q ≡ turn-of which r) × (q ≤ 4) ⌝ }
+{
+    match which {
+        Direction::Forward => r,
+        Direction::Inverse => 4 - r,
+    }
+}
+
+// ShiftRows or InvShiftRows of a state t into s.
+fn shift_rows(which: Direction, t: &[u8], s: &mut [u8])
     requires { ⌜ (length (now t) ≡ 16) × (length (now s) ≡ 16) ⌝ }
-    ensures { λ _. ⌜ now (s .exit) ≡ Fips197.shift-rows (now (t .entry)) ⌝ }
+    ensures { λ _. ⌜ now (s .exit) ≡ stepped ShiftRows which (now (t .entry)) ⌝ }
 {
     for k in 0..16 {
         let r = k % 4;
-        let c = k / 4 + r;
+        let c = k / 4 + turn(which, r);
         s[k] = t[r + 4 * (c % 4)];
     }
 }
 
-// MixColumns of a state t into s.
-fn mix_columns(t: &[u8], s: &mut [u8])
+// MixColumns or InvMixColumns of a state t into s.
+fn mix_columns(which: Direction, t: &[u8], s: &mut [u8])
     requires { ⌜ (length (now t) ≡ 16) × (length (now s) ≡ 16) ⌝ }
-    ensures { λ _. ⌜ now (s .exit) ≡ Fips197.mix-columns (now (t .entry)) ⌝ }
+    ensures { λ _. ⌜ now (s .exit) ≡ stepped MixColumns which (now (t .entry)) ⌝ }
 {
     for k in 0..16 {
         let r = k % 4;
         let c = 4 * (k / 4);
-        s[k] = gf256::mix(
+        s[k] = gf256::mix_by(
+            which,
             t[c + r],
             t[c + (r + 1) % 4],
             t[c + (r + 2) % 4],
@@ -40,26 +54,26 @@ fn mix_columns(t: &[u8], s: &mut [u8])
 }
 
 // The step that is named, of a state t into s.
-fn make_step(which: Step, t: &[u8], s: &mut [u8])
+fn make_step(step: Step, which: Direction, t: &[u8], s: &mut [u8])
     requires { ⌜ (length (now t) ≡ 16) × (length (now s) ≡ 16) ⌝ }
-    ensures { λ _. ⌜ now (s .exit) ≡ stepped which (now (t .entry)) ⌝ }
+    ensures { λ _. ⌜ now (s .exit) ≡ stepped step which (now (t .entry)) ⌝ }
 {
-    match which {
-        Step::ShiftRows => shift_rows(t, s),
-        Step::MixColumns => mix_columns(t, s),
+    match step {
+        Step::ShiftRows => shift_rows(which, t, s),
+        Step::MixColumns => mix_columns(which, t, s),
     }
 }
 
 // The step that is named, on each share; t is scratch of 16 bytes.
-pub fn step_all(which: Step, d: usize, t: &mut [u8], s: &mut [u8])
+pub fn step_all(step: Step, which: Direction, d: usize, t: &mut [u8], s: &mut [u8])
     requires { ⌜ (d ≤ 8) × (length (now t) ≡ 16) × (length (now s) ≡ suc d * 16) ⌝ }
-    ensures { λ _. ⌜ now (s .exit) ≡ laid (map (stepped which) (parts (suc d) 16 (now (s .entry)))) ⌝ }
+    ensures { λ _. ⌜ now (s .exit) ≡ laid (map (stepped step which) (parts (suc d) 16 (now (s .entry)))) ⌝ }
 {
     for i in 0..d + 1 {
         let a = i * 16;
         let e = a + 16;
         shares::bytes::put(&s[a..e], t);
-        make_step(which, t, &mut s[a..e]);
+        make_step(step, which, t, &mut s[a..e]);
     }
 }
 

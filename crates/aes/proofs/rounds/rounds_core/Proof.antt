@@ -9,7 +9,7 @@ use denote.Ref.{now}
 use Rattle.shares.specs.Strings.{parts, laid}
 use Rattle.shares.proofs.WriteLaws.{length-part-first, front-all}
 use Rattle.cipher.specs.Fips197.{rounds}
-use Rattle.cipher.specs.Cipher.{encrypted-with}
+use Rattle.aes.specs.Directions.{with-of}
 use Rattle.aes.proofs.rounds.rounds_core.Statement.{statement}
 use Rattle.aes.proofs.rounds.rounds_core.Tie as tie
 
@@ -55,7 +55,7 @@ returns c =
     let a = c .before .before .before .before .before .before .before .before .before .before .before .before .before .before .before .before .before .before .args in
     let fit = c .before .before .before .before .before .before .before .before .before .before .before .before .before .before .before .before .before .before .pre in
     let copied = c .before .before .before .before .before .before .before .before .before .before .before .before .put .ensures ∙ front-all (now (a .input)) (now (a .output)) (fit .3 ∙ sym (fit .4)) in
-    (c .before .before .before .before .before .rounds-with .ensures .0, c .before .before .before .before .before .rounds-with .ensures .1 ∙ ap (λ (s : List ℕ). laid (encrypted-with (a .nk) (a .d) (parts (suc (a .d)) (16 * suc (rounds (a .nk))) (now (a .keys))) (parts (suc (a .d)) 16 s) (now (a .tape)))) copied)
+    (c .before .before .before .before .before .rounds-with .ensures .0, c .before .before .before .before .before .rounds-with .ensures .1 ∙ ap (λ (s : List ℕ). laid (with-of (a .which) (a .nk) (a .d) (parts (suc (a .d)) (16 * suc (rounds (a .nk))) (now (a .keys))) (parts (suc (a .d)) 16 s) (now (a .tape)))) copied)
 
 pub rounds-core-spec : {M : Type 1} → statement M
 rounds-core-spec =

@@ -1,12 +1,10 @@
 -- `aes::rounds::rounds_with` meets its contract. Assumes nothing.
 use mathlib.Core.Path.{ap, sym, _∙_}
-use Prim.Native.Nat.{ℕ, suc, _*_, _-_}
+use Prim.Native.Nat.{ℕ, suc, _*_}
 use native.Mathlib.Omega.{arith}
-use borrow.Author.Needs.{needs}
 use denote.Ref.{now}
-use Rattle.cipher.specs.Fips197.{rounds}
-use Rattle.cipher.specs.Cipher.{encrypted-with-need}
-use Rattle.aes.proofs.RoundLaws.{keys-long, encrypted-with-made}
+use Rattle.aes.proofs.RoundLaws.{keys-long, rounds-need-of, with-made}
+use borrow.Author.Needs.{needs}
 use Rattle.aes.proofs.rounds.rounds_with.Statement.{statement}
 use Rattle.aes.proofs.rounds.rounds_with.Tie as tie
 
@@ -19,22 +17,25 @@ add-m c = search needs
 mul-m : tie.Need-mul-m
 mul-m c = search needs
 
+key-number-requires : tie.Need-key-number-requires
+key-number-requires c κs = search needs
+
 add-key-requires : tie.Need-add-key-requires
 add-key-requires c κs =
-    let a = c .before .before .before .before .before .before .before .args in
-    (c .before .before .before .before .before .before .before .pre .0, omega arith, c .before .before .before .before .before .before .before .pre .2 ∙ ap (λ (n : ℕ). suc (a .d) * n) (sym (keys-long (a .nk))), c .before .before .before .before .before .before .before .pre .3)
+    let a = c .before .before .before .before .before .before .before .before .args in
+    let fit = c .before .before .before .before .before .before .before .before .pre in
+    (fit .0, omega (arith, c .before .key-number .ensures .1), fit .2 ∙ ap (λ (n : ℕ). suc (a .d) * n) (sym (keys-long (a .nk))), fit .3)
 
 run-rounds-requires : tie.Need-run-rounds-requires
-unfolding encrypted-with-need rounds
 run-rounds-requires c κs =
-    let a = c .before .before .before .before .before .before .before .before .before .before .before .before .before .before .args in
-    let fit = c .before .before .before .before .before .before .before .before .before .before .before .before .before .before .pre in (
+    let a = c .before .before .before .before .before .before .before .before .before .before .before .before .before .before .before .args in
+    let fit = c .before .before .before .before .before .before .before .before .before .before .before .before .before .before .before .pre in (
       omega arith,
       record {
         order = fit .0;
         round = omega arith;
         keyed = fit .2 ∙ ap (λ (n : ℕ). suc (a .d) * n) (sym (keys-long (a .nk)));
-        drawn = fit .4;
+        drawn = omega (arith, fit .4, rounds-need-of (a .nk) (a .d));
         x-long = fit .5;
         y-long = fit .6;
         t-long = fit .7;
@@ -55,11 +56,12 @@ same-length-4 : tie.Need-same-length-4
 same-length-4 c = search needs
 
 returns : tie.Need-returns
-unfolding encrypted-with-need rounds
 returns c =
-    let a = c .before .before .before .before .before .before .before .before .before .before .before .before .before .before .before .before .before .before .before .before .before .before .before .args in
-    let fit = c .before .before .before .before .before .before .before .before .before .before .before .before .before .before .before .before .before .before .before .before .before .before .before .pre in
-    (c .before .before .before .before .before .before .before .before .run-rounds .ensures .0, encrypted-with-made (a .nk) (a .d) (now (a .keys)) (now (a .tape)) (now (a .output)) _ _ (fit .2) (fit .3) (c .before .before .before .before .before .before .before .before .before .before .before .before .before .before .before .add-key .ensures) (c .before .before .before .before .before .before .before .before .run-rounds .ensures .1))
+    let a = c .before .before .before .before .before .before .before .before .before .before .before .before .before .before .before .before .before .before .before .before .before .before .before .before .args in
+    let fit = c .before .before .before .before .before .before .before .before .before .before .before .before .before .before .before .before .before .before .before .before .before .before .before .before .pre in
+    let first = c .before .before .before .before .before .before .before .before .before .before .before .before .before .before .before .before .before .key-number in
+    let run = c .before .before .before .before .before .before .before .before .run-rounds .ensures in
+    (run .0 ∙ rounds-need-of (a .nk) (a .d), with-made (a .which) (a .nk) (a .d) (first .result) (now (a .keys)) (now (a .tape)) (now (a .output)) _ _ (fit .2) (fit .3) (first .ensures .0) (first .ensures .1) (c .before .before .before .before .before .before .before .before .before .before .before .before .before .before .before .add-key .ensures) (run .1))
 
 pub rounds-with-spec : {M : Type 1} → statement M
 rounds-with-spec =
@@ -68,6 +70,7 @@ rounds-with-spec =
     add-nr
     add-m
     mul-m
+    key-number-requires
     add-key-requires
     run-rounds-requires
     same-length

@@ -1,116 +1,88 @@
 -- `aes::rounds::run_rounds` meets its contract. Assumes nothing.
 use mathlib.Core.Path.{_≡_, refl, _∙_}
-use Prim.Native.Nat.{_≤_, _-_}
+use Prim.Native.Nat.{_≤_, _+_, _-_}
 use native.Mathlib.Omega.{arith}
-use borrow.Author.Needs.{needs}
 use denote.Ref.{now}
 use lib.ListN.{length}
 use Rattle.shares.proofs.WriteLaws.{length-part-rest}
-use Rattle.aes.proofs.RoundLaws.{Rounding, rounding-start, rounding-room, rounding-more, rounding-taken, rounding-done}
+use Rattle.aes.proofs.RoundLaws.{rounds-bound, Rounding, rounding-start, rounding-room, rounding-more, rounding-taken, rounding-done}
+use borrow.Author.Needs.{needs}
 use Rattle.aes.proofs.rounds.run_rounds.Statement.{statement}
 use Rattle.aes.proofs.rounds.run_rounds.Tie as tie
 
 abbrev Inv-loop : tie.InvT-loop
-Inv-loop nr d m keys tape x₀ y₀ t₀ s₀ at₀ r₀ x y t s at r =
-    (1 ≤ r) × (r ≤ nr) × Rounding d m nr keys tape s₀ r at s × (length x ≡ length x₀) × (length y ≡ length y₀) × (length t ≡ length t₀)
+Inv-loop which nr d m keys tape x₀ y₀ t₀ s₀ at₀ i₀ i-end x y t s at i =
+    (1 ≤ i) × (i ≤ nr + 1) × (i-end ≡ nr + 1) × Rounding which d m nr keys tape s₀ i at s × (length x ≡ length x₀) × (length y ≡ length y₀) × (length t ≡ length t₀)
 
 abbrev μ-loop : tie.MeasureT-loop
-μ-loop nr d m keys tape x₀ y₀ t₀ s₀ at₀ r₀ x y t s at r = nr - r
+μ-loop which nr d m keys tape x₀ y₀ t₀ s₀ at₀ i₀ i-end x y t s at i = i-end - i
+
+add-i-end : tie.Need-add-i-end Inv-loop μ-loop
+add-i-end c = search needs
 
 loop-holds : tie.Need-loop-holds Inv-loop μ-loop
-loop-holds c = (omega arith, omega arith, rounding-start _ _ _ _ _ _ (omega arith), refl, refl, refl)
+loop-holds c = (omega arith, omega arith, refl, rounding-start _ _ _ _ _ _ _ (c .before .before .before .before .before .before .pre .1 .s-long), refl, refl, refl)
 
-sub-full-round : tie.Need-sub-full-round Inv-loop μ-loop
-sub-full-round c = search needs
+key-number-requires : tie.Need-key-number-requires Inv-loop μ-loop
+key-number-requires c κs = search needs
 
-part-full-round-start : tie.Need-part-full-round-start Inv-loop μ-loop
-part-full-round-start c = search needs
+sub-make-round : tie.Need-sub-make-round Inv-loop μ-loop
+sub-make-round c = search needs
 
-part-full-round-end : tie.Need-part-full-round-end Inv-loop μ-loop
-part-full-round-end c = search needs
+part-make-round-start : tie.Need-part-make-round-start Inv-loop μ-loop
+part-make-round-start c = search needs
 
-full-round-requires : tie.Need-full-round-requires Inv-loop μ-loop
-full-round-requires c κs =
-    let a = c .before .before .before .before .before .before .before .before .before .before .before .before .before .args in
-    let fit = c .before .before .before .before .before .before .before .before .before .before .before .before .before .pre .1 in
-    let l = c .before .before .before .before .before .before .loop in
-    let so-far = l .inv .2 in
-    let room = rounding-room (a .d) (a .m) (a .nr) (now (a .keys)) (now (a .tape)) (now (a .s)) (l .r) (l .at) (l .s) so-far (omega (arith, l .inv)) in
+part-make-round-end : tie.Need-part-make-round-end Inv-loop μ-loop
+part-make-round-end c = search needs
+
+make-round-requires : tie.Need-make-round-requires Inv-loop μ-loop
+make-round-requires c κs =
+    let a = c .before .before .before .before .before .before .before .before .before .before .before .before .before .before .args in
+    let fit = c .before .before .before .before .before .before .before .before .before .before .before .before .before .before .pre .1 in
+    let l = c .before .before .before .before .before .before .before .loop in
+    let so-far = l .inv .3 in
+    let room = rounding-room (a .which) (a .d) (a .m) (a .nr) (now (a .keys)) (now (a .tape)) (now (a .s)) (l .i) (l .at) (l .s) so-far (omega (arith, l .inv)) in
     record {
       order = fit .order;
-      round = omega (arith, fit .round, l .inv);
+      round = omega (arith, fit .round, c .before .before .before .before .before .key-number .ensures .1);
       keyed = fit .keyed;
       drawn = omega (arith, room, fit .drawn, length-part-rest (now (a .tape)) (l .at));
-      x-long = l .inv .3 ∙ fit .x-long;
-      y-long = l .inv .4 ∙ fit .y-long;
-      t-long = l .inv .5 ∙ fit .t-long;
+      x-long = l .inv .4 ∙ fit .x-long;
+      y-long = l .inv .5 ∙ fit .y-long;
+      t-long = l .inv .6 ∙ fit .t-long;
       s-long = so-far .long;
     }
 
 add-at : tie.Need-add-at Inv-loop μ-loop
 add-at c =
-    let a = c .before .before .before .before .before .before .before .before .before .before .before .before .before .before .before .before .before .before .before .before .before .before .args in
-    let fit = c .before .before .before .before .before .before .before .before .before .before .before .before .before .before .before .before .before .before .before .before .before .before .pre .1 in
-    let l = c .before .before .before .before .before .before .before .before .before .before .before .before .before .before .before .loop in
-    let so-far = l .inv .2 in
-    omega (arith, rounding-room (a .d) (a .m) (a .nr) (now (a .keys)) (now (a .tape)) (now (a .s)) (l .r) (l .at) (l .s) so-far (omega (arith, l .inv)), fit .drawn, c .before .before .before .before .before .before .before .before .full-round .ensures .0)
+    let a = c .before .before .before .before .before .before .before .before .before .before .before .before .before .before .before .before .before .before .before .before .before .before .before .args in
+    let fit = c .before .before .before .before .before .before .before .before .before .before .before .before .before .before .before .before .before .before .before .before .before .before .before .pre .1 in
+    let l = c .before .before .before .before .before .before .before .before .before .before .before .before .before .before .before .before .loop in
+    let so-far = l .inv .3 in
+    omega (arith, rounding-room (a .which) (a .d) (a .m) (a .nr) (now (a .keys)) (now (a .tape)) (now (a .s)) (l .i) (l .at) (l .s) so-far (omega (arith, l .inv)), rounds-bound (a .nr) (a .d) (c .before .before .before .before .before .before .before .before .before .before .before .before .before .before .before .before .before .before .before .before .before .before .before .pre .0) (fit .order), c .before .before .before .before .before .before .before .before .make-round .ensures .0)
 
-add-r : tie.Need-add-r Inv-loop μ-loop
-add-r c = search needs
+add-i : tie.Need-add-i Inv-loop μ-loop
+add-i c = search needs
 
 loop-less : tie.Need-loop-less Inv-loop μ-loop
 loop-less c = search needs
 
 loop-again : tie.Need-loop-again Inv-loop μ-loop
 loop-again c =
-    let a = c .before .before .before .before .before .before .before .before .before .before .before .before .before .before .before .before .before .before .before .before .before .before .args in
-    let fit = c .before .before .before .before .before .before .before .before .before .before .before .before .before .before .before .before .before .before .before .before .before .before .pre .1 in
-    let l = c .before .before .before .before .before .before .before .before .before .before .before .before .before .before .before .loop in
-    let so-far = l .inv .2 in
-    let q = c .before .before .before .before .before .before .before .before .full-round in
-    let test = c .before .before .before .before .before .before .before .before .before .before .before .before .before .before in (
+    let a = c .before .before .before .before .before .before .before .before .before .before .before .before .before .before .before .before .before .before .before .before .before .before .before .args in
+    let fit = c .before .before .before .before .before .before .before .before .before .before .before .before .before .before .before .before .before .before .before .before .before .before .before .pre .1 in
+    let l = c .before .before .before .before .before .before .before .before .before .before .before .before .before .before .before .before .loop in
+    let so-far = l .inv .3 in
+    let q = c .before .before .before .before .before .before .before .before .make-round in
+    let n = c .before .before .before .before .before .before .before .before .before .before .before .before .before .before .key-number in (
       omega arith,
-      omega (arith, test),
-      rounding-more (a .d) (a .m) (a .nr) (now (a .keys)) (now (a .tape)) (now (a .s)) (l .r) (l .at) (l .s) so-far (q .result) _ (omega (arith, test)) (fit .round) (fit .keyed) (q .ensures .0) (q .ensures .1),
+      omega (arith, l .inv),
+      l .inv .2,
+      rounding-more (a .which) (a .d) (a .m) (a .nr) (now (a .keys)) (now (a .tape)) (now (a .s)) (l .i) (l .at) (l .s) so-far (n .result) (q .result) _ (omega (arith, l .inv)) (fit .round) (fit .keyed) (n .ensures .0) (n .ensures .1) (q .ensures .0) (q .ensures .1),
       search needs,
       search needs,
       search needs,
     )
-
-sub-last-round : tie.Need-sub-last-round Inv-loop μ-loop
-sub-last-round c = search needs
-
-part-last-round-start : tie.Need-part-last-round-start Inv-loop μ-loop
-part-last-round-start c = search needs
-
-part-last-round-end : tie.Need-part-last-round-end Inv-loop μ-loop
-part-last-round-end c = search needs
-
-last-round-requires : tie.Need-last-round-requires Inv-loop μ-loop
-last-round-requires c κs =
-    let a = c .before .before .before .before .before .before .before .before .before .before .before .before .before .args in
-    let fit = c .before .before .before .before .before .before .before .before .before .before .before .before .before .pre .1 in
-    let l = c .before .before .before .before .before .before .loop in
-    let so-far = l .inv .2 in
-    let room = rounding-room (a .d) (a .m) (a .nr) (now (a .keys)) (now (a .tape)) (now (a .s)) (l .r) (l .at) (l .s) so-far (omega (arith, l .inv)) in
-    record {
-      order = fit .order;
-      round = omega (arith, fit .round, l .inv);
-      keyed = fit .keyed;
-      drawn = omega (arith, room, fit .drawn, length-part-rest (now (a .tape)) (l .at));
-      x-long = l .inv .3 ∙ fit .x-long;
-      y-long = l .inv .4 ∙ fit .y-long;
-      t-long = l .inv .5 ∙ fit .t-long;
-      s-long = so-far .long;
-    }
-
-add-at-2 : tie.Need-add-at-2 Inv-loop μ-loop
-add-at-2 c =
-    let a = c .before .before .before .before .before .before .before .before .before .before .before .before .before .before .before .before .before .before .before .before .before .before .args in
-    let fit = c .before .before .before .before .before .before .before .before .before .before .before .before .before .before .before .before .before .before .before .before .before .before .pre .1 in
-    let l = c .before .before .before .before .before .before .before .before .before .before .before .before .before .before .before .loop in
-    let so-far = l .inv .2 in
-    omega (arith, rounding-room (a .d) (a .m) (a .nr) (now (a .keys)) (now (a .tape)) (now (a .s)) (l .r) (l .at) (l .s) so-far (omega (arith, l .inv)), fit .drawn, c .before .before .before .before .before .before .before .before .last-round .ensures .0)
 
 same-length : tie.Need-same-length Inv-loop μ-loop
 same-length c = search needs
@@ -126,15 +98,11 @@ same-length-4 c = search needs
 
 returns : tie.Need-returns Inv-loop μ-loop
 returns c =
-    let a = c .before .before .before .before .before .before .before .before .before .before .before .before .before .before .before .before .before .before .before .before .before .before .args in
-    let l = c .before .before .before .before .before .before .before .before .before .before .before .before .before .before .before .loop in
-    let so-far = l .inv .2 in
-    let q = c .before .before .before .before .before .before .before .before .last-round in
-    let test = c .before .before .before .before .before .before .before .before .before .before .before .before .before .before in
-    let e : l .r ≡ a .nr = omega (arith, test) in (
-      rounding-taken (a .d) (a .m) (a .nr) (now (a .keys)) (now (a .tape)) (now (a .s)) (l .r) (l .at) (l .s) so-far (q .result) e (q .ensures .0),
-      rounding-done (a .d) (a .m) (a .nr) (now (a .keys)) (now (a .tape)) (now (a .s)) (l .r) (l .at) (l .s) so-far _ e (q .ensures .1),
-    )
+    let a = c .before .before .before .before .before .before .before .before .args in
+    let l = c .before .loop in
+    let so-far = l .inv .3 in
+    let e : l .i ≡ a .nr + 1 = omega (arith, l .inv) in
+    (rounding-taken (a .which) (a .d) (a .m) (a .nr) (now (a .keys)) (now (a .tape)) (now (a .s)) (l .i) (l .at) (l .s) so-far e, rounding-done (a .which) (a .d) (a .m) (a .nr) (now (a .keys)) (now (a .tape)) (now (a .s)) (l .i) (l .at) (l .s) so-far e)
 
 pub run-rounds-spec : {M : Type 1} → statement M
 run-rounds-spec =
@@ -142,20 +110,17 @@ run-rounds-spec =
     (tie.spec
     Inv-loop
     μ-loop
+    add-i-end
     loop-holds
-    sub-full-round
-    part-full-round-start
-    part-full-round-end
-    full-round-requires
+    key-number-requires
+    sub-make-round
+    part-make-round-start
+    part-make-round-end
+    make-round-requires
     add-at
-    add-r
+    add-i
     loop-less
     loop-again
-    sub-last-round
-    part-last-round-start
-    part-last-round-end
-    last-round-requires
-    add-at-2
     same-length
     same-length-2
     same-length-3

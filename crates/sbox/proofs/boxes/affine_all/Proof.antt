@@ -4,16 +4,16 @@ use Prim.Native.Nat.{_≤_, _-_}
 use native.Mathlib.Omega.{arith}
 use borrow.Author.Needs.{needs}
 use lib.ListN.{length, length-set}
-use Rattle.gf256.specs.Field as Field
+use Rattle.gf256.specs.Ways.{affine-of}
 use Rattle.sbox.proofs.EachLaws.{each, each-none, each-more, each-all}
 use Rattle.sbox.proofs.boxes.affine_all.Statement.{statement}
 use Rattle.sbox.proofs.boxes.affine_all.Tie as tie
 
 abbrev Inv-loop : tie.InvT-loop
-Inv-loop x₀ k₀ k-end x k = (k ≤ k-end) × (k-end ≡ length x₀) × (x ≡ each Field.affine k x₀) × (length x ≡ length x₀)
+Inv-loop which x₀ k₀ k-end x k = (k ≤ k-end) × (k-end ≡ length x₀) × (x ≡ each (affine-of which) k x₀) × (length x ≡ length x₀)
 
 abbrev μ-loop : tie.MeasureT-loop
-μ-loop x₀ k₀ k-end x k = k-end - k
+μ-loop which x₀ k₀ k-end x k = k-end - k
 
 loop-holds : tie.Need-loop-holds Inv-loop μ-loop
 loop-holds c = (search needs, refl, each-none _ _, refl)

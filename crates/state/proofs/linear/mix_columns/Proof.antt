@@ -7,15 +7,17 @@ use borrow.Author.Needs.{needs}
 use denote.Ref.{now}
 use lib.ListN.{length, getD, length-set}
 use Rattle.xor.specs.Lists.{at}
-use Rattle.gf256.specs.Field.{mixed}
+use Rattle.gf256.specs.declared.Direction.{Direction}
+use Rattle.gf256.specs.Ways.{mixed-of}
 use Rattle.shares.proofs.WriteLaws.{over, over-none, over-more, over-all}
-use Rattle.cipher.specs.Fips197.{cell, state, mix-columns}
+use Rattle.cipher.specs.Fips197.{cell, state}
+use Rattle.state.proofs.StepLaws.{columns-mixed}
 use Rattle.state.proofs.linear.mix_columns.Statement.{statement}
 use Rattle.state.proofs.linear.mix_columns.Tie as tie
 
 -- byte k of the new state
-abbrev mixed-byte : List ℕ → ℕ → ℕ
-mixed-byte t k = mixed (cell t (k % 4) (k / 4)) (cell t (k % 4 + 1) (k / 4)) (cell t (k % 4 + 2) (k / 4)) (cell t (k % 4 + 3) (k / 4))
+abbrev mixed-byte : Direction → List ℕ → ℕ → ℕ
+mixed-byte w t k = mixed-of w (cell t (k % 4) (k / 4)) (cell t (k % 4 + 1) (k / 4)) (cell t (k % 4 + 2) (k / 4)) (cell t (k % 4 + 3) (k / 4))
 
 -- what the code reads for byte k
 read-first : (t : List ℕ) (k : ℕ) → k < 16 → getD t (4 * (k / 4) + k % 4) 0 ≡ cell t (k % 4) (k / 4)
@@ -26,15 +28,15 @@ read-next : (t : List ℕ) (k j : ℕ) → k < 16 → getD t (4 * (k / 4) + (k %
 unfolding cell at
 read-next t k j h = let e : 4 * (k / 4) + (k % 4 + j) % 4 ≡ (k % 4 + j) % 4 + 4 * (k / 4 % 4) = omega arith in ap (λ (i : ℕ). getD t i 0) e
 
-read : (t : List ℕ) (k : ℕ) → k < 16
-    → mixed (getD t (4 * (k / 4) + k % 4) 0) (getD t (4 * (k / 4) + (k % 4 + 1) % 4) 0) (getD t (4 * (k / 4) + (k % 4 + 2) % 4) 0) (getD t (4 * (k / 4) + (k % 4 + 3) % 4) 0) ≡ mixed-byte t k
-read t k h = cc (read-first t k h, read-next t k 1 h, read-next t k 2 h, read-next t k 3 h)
+read : (w : Direction) (t : List ℕ) (k : ℕ) → k < 16
+    → mixed-of w (getD t (4 * (k / 4) + k % 4) 0) (getD t (4 * (k / 4) + (k % 4 + 1) % 4) 0) (getD t (4 * (k / 4) + (k % 4 + 2) % 4) 0) (getD t (4 * (k / 4) + (k % 4 + 3) % 4) 0) ≡ mixed-byte w t k
+read w t k h = cc (read-first t k h, read-next t k 1 h, read-next t k 2 h, read-next t k 3 h)
 
 abbrev Inv-loop : tie.InvT-loop
-Inv-loop t s₀ k₀ s k = (k ≤ 16) × (s ≡ over (mixed-byte t) k s₀) × (length s ≡ length s₀)
+Inv-loop w t s₀ k₀ s k = (k ≤ 16) × (s ≡ over (mixed-byte w t) k s₀) × (length s ≡ length s₀)
 
 abbrev μ-loop : tie.MeasureT-loop
-μ-loop t s₀ k₀ s k = 16 - k
+μ-loop w t s₀ k₀ s k = 16 - k
 
 loop-holds : tie.Need-loop-holds Inv-loop μ-loop
 loop-holds c = (omega arith, over-none _ _, refl)
@@ -42,41 +44,41 @@ loop-holds c = (omega arith, over-none _ _, refl)
 mul-c : tie.Need-mul-c Inv-loop μ-loop
 mul-c c = search needs
 
-add-mix : tie.Need-add-mix Inv-loop μ-loop
-add-mix c = search needs
+add-mix-by : tie.Need-add-mix-by Inv-loop μ-loop
+add-mix-by c = search needs
 
-shared-slice-read-mix : tie.Need-shared-slice-read-mix Inv-loop μ-loop
-shared-slice-read-mix c = search needs
+shared-slice-read-mix-by : tie.Need-shared-slice-read-mix-by Inv-loop μ-loop
+shared-slice-read-mix-by c = search needs
 
-add-mix-2 : tie.Need-add-mix-2 Inv-loop μ-loop
-add-mix-2 c = search needs
+add-mix-by-2 : tie.Need-add-mix-by-2 Inv-loop μ-loop
+add-mix-by-2 c = search needs
 
-add-mix-3 : tie.Need-add-mix-3 Inv-loop μ-loop
-add-mix-3 c = search needs
+add-mix-by-3 : tie.Need-add-mix-by-3 Inv-loop μ-loop
+add-mix-by-3 c = search needs
 
-shared-slice-read-mix-2 : tie.Need-shared-slice-read-mix-2 Inv-loop μ-loop
-shared-slice-read-mix-2 c = search needs
+shared-slice-read-mix-by-2 : tie.Need-shared-slice-read-mix-by-2 Inv-loop μ-loop
+shared-slice-read-mix-by-2 c = search needs
 
-add-mix-4 : tie.Need-add-mix-4 Inv-loop μ-loop
-add-mix-4 c = search needs
+add-mix-by-4 : tie.Need-add-mix-by-4 Inv-loop μ-loop
+add-mix-by-4 c = search needs
 
-add-mix-5 : tie.Need-add-mix-5 Inv-loop μ-loop
-add-mix-5 c = search needs
+add-mix-by-5 : tie.Need-add-mix-by-5 Inv-loop μ-loop
+add-mix-by-5 c = search needs
 
-shared-slice-read-mix-3 : tie.Need-shared-slice-read-mix-3 Inv-loop μ-loop
-shared-slice-read-mix-3 c = search needs
+shared-slice-read-mix-by-3 : tie.Need-shared-slice-read-mix-by-3 Inv-loop μ-loop
+shared-slice-read-mix-by-3 c = search needs
 
-add-mix-6 : tie.Need-add-mix-6 Inv-loop μ-loop
-add-mix-6 c = search needs
+add-mix-by-6 : tie.Need-add-mix-by-6 Inv-loop μ-loop
+add-mix-by-6 c = search needs
 
-add-mix-7 : tie.Need-add-mix-7 Inv-loop μ-loop
-add-mix-7 c = search needs
+add-mix-by-7 : tie.Need-add-mix-by-7 Inv-loop μ-loop
+add-mix-by-7 c = search needs
 
-shared-slice-read-mix-4 : tie.Need-shared-slice-read-mix-4 Inv-loop μ-loop
-shared-slice-read-mix-4 c = search needs
+shared-slice-read-mix-by-4 : tie.Need-shared-slice-read-mix-by-4 Inv-loop μ-loop
+shared-slice-read-mix-by-4 c = search needs
 
-mix-requires : tie.Need-mix-requires Inv-loop μ-loop
-mix-requires c κs = search needs
+mix-by-requires : tie.Need-mix-by-requires Inv-loop μ-loop
+mix-by-requires c κs = search needs
 
 slice-write-s : tie.Need-slice-write-s Inv-loop μ-loop
 slice-write-s c = search needs
@@ -91,16 +93,17 @@ loop-again : tie.Need-loop-again Inv-loop μ-loop
 loop-again c =
     let a = c .before .before .before .before .before .before .before .before .before .args in
     let l = c .before .before .before .before .before .before .loop in
-    (omega arith, over-more _ (l .k) _ (l .s) (now (a .s)) (l .inv .1) (c .mix .ensures ∙ read (now (a .t)) (l .k) (omega arith)) (omega arith), simp length-set (omega arith))
+    (omega arith, over-more _ (l .k) _ (l .s) (now (a .s)) (l .inv .1) (c .mix-by .ensures ∙ read (a .which) (now (a .t)) (l .k) (omega arith)) (omega arith), simp length-set (omega arith))
 
 same-length : tie.Need-same-length Inv-loop μ-loop
 same-length c = search needs
 
 returns : tie.Need-returns Inv-loop μ-loop
-unfolding mix-columns state
+unfolding state
 returns c =
+    let a = c .before .before .before .before .args in
     let e : c .before .loop .k ≡ 16 = omega arith in
-    over-all _ 16 _ _ (rw e at (c .before .loop .inv .1)) (omega arith)
+    over-all _ 16 _ _ (rw e at (c .before .loop .inv .1)) (omega arith) ∙ columns-mixed (a .which) (now (a .t))
 
 pub mix-columns-spec : {M : Type 1} → statement M
 mix-columns-spec =
@@ -110,18 +113,18 @@ mix-columns-spec =
     μ-loop
     loop-holds
     mul-c
-    add-mix
-    shared-slice-read-mix
-    add-mix-2
-    add-mix-3
-    shared-slice-read-mix-2
-    add-mix-4
-    add-mix-5
-    shared-slice-read-mix-3
-    add-mix-6
-    add-mix-7
-    shared-slice-read-mix-4
-    mix-requires
+    add-mix-by
+    shared-slice-read-mix-by
+    add-mix-by-2
+    add-mix-by-3
+    shared-slice-read-mix-by-2
+    add-mix-by-4
+    add-mix-by-5
+    shared-slice-read-mix-by-3
+    add-mix-by-6
+    add-mix-by-7
+    shared-slice-read-mix-by-4
+    mix-by-requires
     slice-write-s
     add-k
     loop-less

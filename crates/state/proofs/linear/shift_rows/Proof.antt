@@ -1,6 +1,6 @@
 -- `state::linear::shift_rows` meets its contract. Assumes nothing.
 use mathlib.Core.List.{List}
-use mathlib.Core.Path.{_≡_, refl, ap}
+use mathlib.Core.Path.{_≡_, refl, ap₂, _∙_}
 use Prim.Native.Nat.{ℕ, _≤_, _+_, _*_, _/_, _%_, _-_}
 use native.Mathlib.Omega.{arith}
 use borrow.Author.Needs.{needs}
@@ -8,23 +8,33 @@ use denote.Ref.{now}
 use lib.ListN.{length, getD, length-set}
 use Rattle.xor.specs.Lists.{at}
 use Rattle.shares.proofs.WriteLaws.{over, over-none, over-more, over-all}
-use Rattle.cipher.specs.Fips197.{cell, state, shift-rows}
+use Rattle.gf256.specs.declared.Direction.{Direction}
+use Rattle.cipher.specs.Fips197.{cell, state}
+use Rattle.state.specs.Steps.{turn-of}
+use Rattle.state.proofs.StepLaws.{rows-turned}
 use Rattle.state.proofs.linear.shift_rows.Statement.{statement}
 use Rattle.state.proofs.linear.shift_rows.Tie as tie
 
+-- byte k of the new state
+abbrev shifted-byte : Direction → List ℕ → ℕ → ℕ
+shifted-byte w t k = cell t (k % 4) (k / 4 + turn-of w (k % 4))
+
 -- what the code reads for byte k
-read : (t : List ℕ) (k : ℕ) → getD t (k % 4 + 4 * ((k / 4 + k % 4) % 4)) 0 ≡ cell t (k % 4) (k / 4 + k % 4)
+read : (w : Direction) (t : List ℕ) (k q : ℕ) → q ≡ turn-of w (k % 4) → getD t (k % 4 + 4 * ((k / 4 + q) % 4)) 0 ≡ shifted-byte w t k
 unfolding cell at
-read t k = let e : k % 4 ≡ k % 4 % 4 = omega arith in ap (λ (i : ℕ). getD t (i + 4 * ((k / 4 + k % 4) % 4)) 0) e
+read w t k q e = let f : k % 4 ≡ k % 4 % 4 = omega arith in ap₂ (λ (i j : ℕ). getD t (i + 4 * ((k / 4 + j) % 4)) 0) f e
 
 abbrev Inv-loop : tie.InvT-loop
-Inv-loop t s₀ k₀ s k = (k ≤ 16) × (s ≡ over (λ k. cell t (k % 4) (k / 4 + k % 4)) k s₀) × (length s ≡ length s₀)
+Inv-loop w t s₀ k₀ s k = (k ≤ 16) × (s ≡ over (shifted-byte w t) k s₀) × (length s ≡ length s₀)
 
 abbrev μ-loop : tie.MeasureT-loop
-μ-loop t s₀ k₀ s k = 16 - k
+μ-loop w t s₀ k₀ s k = 16 - k
 
 loop-holds : tie.Need-loop-holds Inv-loop μ-loop
 loop-holds c = (omega arith, over-none _ _, refl)
+
+turn-requires : tie.Need-turn-requires Inv-loop μ-loop
+turn-requires c κs = omega arith
 
 add-c : tie.Need-add-c Inv-loop μ-loop
 add-c c = search needs
@@ -49,18 +59,19 @@ loop-less c = search needs
 
 loop-again : tie.Need-loop-again Inv-loop μ-loop
 loop-again c =
-    let a = c .before .before .before .args in
-    let l = c .before .before .loop in
-    (omega arith, over-more _ (l .k) _ (l .s) (now (a .s)) (l .inv .1) (read (now (a .t)) (l .k)) (omega arith), simp length-set (omega arith))
+    let a = c .before .before .before .before .before .before .args in
+    let l = c .before .before .before .loop in
+    (omega arith, over-more _ (l .k) _ (l .s) (now (a .s)) (l .inv .1) (read (a .which) (now (a .t)) (l .k) _ (c .before .turn .ensures .0)) (omega arith), simp length-set (omega arith))
 
 same-length : tie.Need-same-length Inv-loop μ-loop
 same-length c = search needs
 
 returns : tie.Need-returns Inv-loop μ-loop
-unfolding shift-rows state
+unfolding state
 returns c =
+    let a = c .before .before .before .before .args in
     let e : c .before .loop .k ≡ 16 = omega arith in
-    over-all _ 16 _ _ (rw e at (c .before .loop .inv .1)) (omega arith)
+    over-all _ 16 _ _ (rw e at (c .before .loop .inv .1)) (omega arith) ∙ rows-turned (a .which) (now (a .t))
 
 pub shift-rows-spec : {M : Type 1} → statement M
 shift-rows-spec =
@@ -69,6 +80,7 @@ shift-rows-spec =
     Inv-loop
     μ-loop
     loop-holds
+    turn-requires
     add-c
     mul-s
     add-s

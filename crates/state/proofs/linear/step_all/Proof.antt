@@ -11,10 +11,10 @@ use Rattle.state.proofs.linear.step_all.Statement.{statement}
 use Rattle.state.proofs.linear.step_all.Tie as tie
 
 abbrev Inv-loop : tie.InvT-loop
-Inv-loop w d t₀ s₀ i₀ i-end t s i = (i ≤ suc d) × (i-end ≡ suc d) × Done (λ i. stepped w) 16 s₀ i s × (length t ≡ length t₀) × (length s ≡ length s₀)
+Inv-loop step w d t₀ s₀ i₀ i-end t s i = (i ≤ suc d) × (i-end ≡ suc d) × Done (λ i. stepped step w) 16 s₀ i s × (length t ≡ length t₀) × (length s ≡ length s₀)
 
 abbrev μ-loop : tie.MeasureT-loop
-μ-loop w d t₀ s₀ i₀ i-end t s i = i-end - i
+μ-loop step w d t₀ s₀ i₀ i-end t s i = i-end - i
 
 add-i-end : tie.Need-add-i-end Inv-loop μ-loop
 add-i-end c = search needs
@@ -64,8 +64,8 @@ loop-again c =
     let l = c .before .before .before .before .before .before .before .before .before .before .before .before .loop in (
       omega arith,
       omega arith,
-      done-more (λ i. stepped (a .which)) 16 (suc (a .d)) (λ i u s h. stepped-length (a .which) s) _ (l .s) _ (l .i) (l .i * 16) (l .i * 16 + 16 - l .i * 16) refl (omega arith) (omega arith) (omega arith) (l .inv .2)
-          (copied-made (stepped (a .which)) _ _ _ _ (c .before .before .before .before .before .before .before .put .ensures) (simp (length-take, length-drop) (omega arith)) (c .before .before .make-step .ensures)),
+      done-more (λ i. stepped (a .step) (a .which)) 16 (suc (a .d)) (λ i u s h. stepped-length (a .step) (a .which) s) _ (l .s) _ (l .i) (l .i * 16) (l .i * 16 + 16 - l .i * 16) refl (omega arith) (omega arith) (omega arith) (l .inv .2)
+          (copied-made (stepped (a .step) (a .which)) _ _ _ _ (c .before .before .before .before .before .before .before .put .ensures) (simp (length-take, length-drop) (omega arith)) (c .before .before .make-step .ensures)),
       search needs,
       search needs,
     )

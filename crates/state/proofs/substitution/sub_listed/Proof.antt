@@ -12,14 +12,14 @@ use Rattle.state.proofs.substitution.sub_listed.Statement.{statement}
 use Rattle.state.proofs.substitution.sub_listed.Tie as tie
 
 abbrev Inv-loop : tie.InvT-loop
-Inv-loop d l list tape x₀ y₀ s₀ at₀ m₀ m-end x y s at m =
-    (m ≤ m-end) × (m-end ≡ length list) × Subbing d l list tape s₀ m at s × (length x ≡ length x₀) × (length y ≡ length y₀)
+Inv-loop which d l list tape x₀ y₀ s₀ at₀ m₀ m-end x y s at m =
+    (m ≤ m-end) × (m-end ≡ length list) × Subbing which d l list tape s₀ m at s × (length x ≡ length x₀) × (length y ≡ length y₀)
 
 abbrev μ-loop : tie.MeasureT-loop
-μ-loop d l list tape x₀ y₀ s₀ at₀ m₀ m-end x y s at m = m-end - m
+μ-loop which d l list tape x₀ y₀ s₀ at₀ m₀ m-end x y s at m = m-end - m
 
 loop-holds : tie.Need-loop-holds Inv-loop μ-loop
-loop-holds c = (omega arith, refl, subbing-start _ _ _ _ _ (omega arith), refl, refl)
+loop-holds c = (omega arith, refl, subbing-start _ _ _ _ _ _ (omega arith), refl, refl)
 
 shared-slice-read-k : tie.Need-shared-slice-read-k Inv-loop μ-loop
 shared-slice-read-k c = search needs
@@ -41,13 +41,13 @@ sub-place-requires c κs =
     let a = c .before .before .before .before .before .before .before .before .before .before .before .before .args in
     let l = c .before .before .before .before .before .before .loop in
     let k = all-getD 0 (l .m) (omega arith) (c .before .before .before .before .before .before .before .before .before .before .before .before .pre .1) in
-    omega (arith, k, l .inv .2 .long, subbing-room (a .d) (a .l) (now (a .list)) (now (a .tape)) (now (a .s)) (l .m) (l .at) (l .s) (l .inv .2) (omega arith), length-drop (l .at) (now (a .tape)))
+    omega (arith, k, l .inv .2 .long, subbing-room (a .which) (a .d) (a .l) (now (a .list)) (now (a .tape)) (now (a .s)) (l .m) (l .at) (l .s) (l .inv .2) (omega arith), length-drop (l .at) (now (a .tape)))
 
 add-at : tie.Need-add-at Inv-loop μ-loop
 add-at c =
     let a = c .before .before .before .before .before .before .before .before .before .before .before .before .before .before .before .before .before .before .before .args in
     let l = c .before .before .before .before .before .before .before .before .before .before .before .before .before .loop in
-    omega (arith, c .before .before .before .before .before .before .sub-place .ensures .0, subbing-room (a .d) (a .l) (now (a .list)) (now (a .tape)) (now (a .s)) (l .m) (l .at) (l .s) (l .inv .2) (omega arith))
+    omega (arith, c .before .before .before .before .before .before .sub-place .ensures .0, subbing-room (a .which) (a .d) (a .l) (now (a .list)) (now (a .tape)) (now (a .s)) (l .m) (l .at) (l .s) (l .inv .2) (omega arith))
 
 add-m : tie.Need-add-m Inv-loop μ-loop
 add-m c = search needs
@@ -62,7 +62,7 @@ loop-again c =
     let p = c .before .before .before .before .before .before .sub-place in (
       omega arith,
       l .inv .1,
-      subbing-more (a .d) (a .l) (now (a .list)) (now (a .tape)) (now (a .s)) (l .m) (l .at) (l .s) (l .inv .2) (getD (now (a .list)) (l .m) 0) (p .result) _ (omega arith) (unfold at in refl) (p .ensures .0) (p .ensures .1),
+      subbing-more (a .which) (a .d) (a .l) (now (a .list)) (now (a .tape)) (now (a .s)) (l .m) (l .at) (l .s) (l .inv .2) (getD (now (a .list)) (l .m) 0) (p .result) _ (omega arith) (unfold at in refl) (p .ensures .0) (p .ensures .1),
       search needs,
       search needs,
     )
@@ -80,7 +80,7 @@ returns : tie.Need-returns Inv-loop μ-loop
 returns c =
     let a = c .before .before .before .before .before .before .before .args in
     let l = c .before .loop in
-    (subbing-taken (a .d) (a .l) (now (a .list)) (now (a .tape)) (now (a .s)) (l .m) (l .at) (l .s) (l .inv .2) (omega arith), subbing-done (a .d) (a .l) (now (a .list)) (now (a .tape)) (now (a .s)) (l .m) (l .at) (l .s) (l .inv .2) (omega arith))
+    (subbing-taken (a .which) (a .d) (a .l) (now (a .list)) (now (a .tape)) (now (a .s)) (l .m) (l .at) (l .s) (l .inv .2) (omega arith), subbing-done (a .which) (a .d) (a .l) (now (a .list)) (now (a .tape)) (now (a .s)) (l .m) (l .at) (l .s) (l .inv .2) (omega arith))
 
 pub sub-listed-spec : {M : Type 1} → statement M
 sub-listed-spec =

@@ -1,14 +1,14 @@
 -- `state::substitution::sub_place` meets its contract. Assumes nothing.
-use borrow.Author.Needs.{needs}
 use Rattle.state.proofs.SubLaws.{sub-made}
+use borrow.Author.Needs.{needs}
 use Rattle.state.proofs.substitution.sub_place.Statement.{statement}
 use Rattle.state.proofs.substitution.sub_place.Tie as tie
 
 gather-requires : tie.Need-gather-requires
 gather-requires c κs = search needs
 
-box-core-requires : tie.Need-box-core-requires
-box-core-requires c κs = search needs
+box-by-requires : tie.Need-box-by-requires
+box-by-requires c κs = search needs
 
 scatter-requires : tie.Need-scatter-requires
 scatter-requires c κs = search needs
@@ -23,14 +23,14 @@ same-length-3 : tie.Need-same-length-3
 same-length-3 c = search needs
 
 returns : tie.Need-returns
-returns c = let boxed = c .before .before .before .before .before .before .before .box-core in (boxed .ensures .0, sub-made _ _ _ _ _ _ _ _ (c .before .before .before .before .before .before .before .before .before .before .before .before .gather .ensures) (boxed .ensures .1) (c .before .before .scatter .ensures))
+returns c = let boxed = c .before .before .before .before .before .before .before .before .before .box-by in (boxed .ensures .0, sub-made _ _ _ _ _ _ _ _ _ (c .before .before .before .before .before .before .before .before .before .before .before .before .before .before .gather .ensures) (boxed .ensures .1) (c .before .before .scatter .ensures))
 
 pub sub-place-spec : {M : Type 1} → statement M
 sub-place-spec =
     tie.close
     (tie.spec
     gather-requires
-    box-core-requires
+    box-by-requires
     scatter-requires
     same-length
     same-length-2

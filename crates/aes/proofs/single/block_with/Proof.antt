@@ -1,4 +1,4 @@
--- `aes::encryption::encrypt_with` meets its contract. Assumes nothing.
+-- `aes::single::block_with` meets its contract. Assumes nothing.
 use mathlib.Core.Path.{_≡_, _∙_}
 use Prim.Native.Nat.{_+_, _-_, _≤_}
 use native.Mathlib.Omega.{arith}
@@ -7,9 +7,9 @@ use denote.Ref.{now}
 use lib.ListN.{length, take, drop}
 use Rattle.shares.proofs.WriteLaws.{length-part-rest}
 use Rattle.cipher.specs.Cipher.{schedule-need, encrypted-with-need, cipher-need}
-use Rattle.aes.proofs.CallsLaws.{encrypted-made}
-use Rattle.aes.proofs.encryption.encrypt_with.Statement.{statement}
-use Rattle.aes.proofs.encryption.encrypt_with.Tie as tie
+use Rattle.aes.proofs.CallsLaws.{block-made}
+use Rattle.aes.proofs.single.block_with.Statement.{statement}
+use Rattle.aes.proofs.single.block_with.Tie as tie
 
 expand-core-requires : tie.Need-expand-core-requires
 unfolding cipher-need
@@ -57,10 +57,10 @@ returns c =
     let e = c .before .before .before .before .before .before .before .before .expand-core .ensures in
     let r = c .before .before .rounds-core .ensures in
     let h : c .before .before .before .before .before .before .before .before .expand-core .result + c .before .before .rounds-core .result ≡ schedule-need (a .nk) (a .d) + encrypted-with-need (a .nk) (a .d) = omega (arith, e .0, r .0) in
-    (h, encrypted-made (a .nk) (a .d) _ (now (a .key)) (now (a .input)) (now (a .tape)) _ _ (p .1) (p .3) (e .1) (e .0) (r .1))
+    (h, block-made (a .which) (a .nk) (a .d) _ (now (a .key)) (now (a .input)) (now (a .tape)) _ _ (p .1) (p .3) (e .1) (e .0) (r .1))
 
-pub encrypt-with-spec : {M : Type 1} → statement M
-encrypt-with-spec =
+pub block-with-spec : {M : Type 1} → statement M
+block-with-spec =
     tie.close
     (tie.spec
     expand-core-requires

@@ -1,16 +1,16 @@
--- `aes::encryption::encrypt_core` meets its contract. Assumes nothing.
+-- `aes::single::block_core` meets its contract. Assumes nothing.
 use mathlib.Core.Path.{_∙_}
 use borrow.Author.Needs.{needs}
 use Rattle.shares.proofs.WriteLaws.{length-part-first}
 use Rattle.aes.proofs.CallsLaws.{keys-long}
-use Rattle.aes.proofs.encryption.encrypt_core.Statement.{statement}
-use Rattle.aes.proofs.encryption.encrypt_core.Tie as tie
+use Rattle.aes.proofs.single.block_core.Statement.{statement}
+use Rattle.aes.proofs.single.block_core.Tie as tie
 
 prepared-length-requires : tie.Need-prepared-length-requires
 prepared-length-requires c κs = search needs
 
-sub-encrypt-with : tie.Need-sub-encrypt-with
-sub-encrypt-with c = search needs
+sub-block-with : tie.Need-sub-block-with
+sub-block-with c = search needs
 
 part-keys-start : tie.Need-part-keys-start
 part-keys-start c = search needs
@@ -18,8 +18,8 @@ part-keys-start c = search needs
 part-keys-end : tie.Need-part-keys-end
 part-keys-end c = search needs
 
-encrypt-with-requires : tie.Need-encrypt-with-requires
-encrypt-with-requires c κs =
+block-with-requires : tie.Need-block-with-requires
+block-with-requires c κs =
     let a = c .before .before .before .before .before .before .before .args in
     let p = c .before .before .before .before .before .before .before .pre in
     let size = c .before .before .prepared-length in
@@ -32,14 +32,14 @@ same-length c = search needs
 returns : tie.Need-returns
 returns c = search needs
 
-pub encrypt-core-spec : {M : Type 1} → statement M
-encrypt-core-spec =
+pub block-core-spec : {M : Type 1} → statement M
+block-core-spec =
     tie.close
     (tie.spec
     prepared-length-requires
-    sub-encrypt-with
+    sub-block-with
     part-keys-start
     part-keys-end
-    encrypt-with-requires
+    block-with-requires
     same-length
     returns)

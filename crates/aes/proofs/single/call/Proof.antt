@@ -1,16 +1,16 @@
--- `aes::encryption::encrypt` meets its contract. Assumes nothing.
+-- `aes::single::call` meets its contract. Assumes nothing.
 use mathlib.Core.Path.{ap, sym, _∙_}
 use Prim.Native.Nat.{ℕ}
 use borrow.Author.Needs.{needs}
 use denote.Ref.{now}
 use lib.ListN.{length}
 use Rattle.shares.proofs.OutcomeLaws.{answered-refused, answered-done}
-use Rattle.cipher.specs.Cipher.{cipher-need, encrypted-laid}
+use Rattle.cipher.specs.Cipher.{cipher-need}
 use Rattle.aes.specs.declared.Route.the-variants.{Single}
-use Rattle.aes.specs.Calls.{Encrypt-outcome}
-use Rattle.aes.proofs.CallsLaws.{key-length, key-long, let-through}
-use Rattle.aes.proofs.encryption.encrypt.Statement.{statement}
-use Rattle.aes.proofs.encryption.encrypt.Tie as tie
+use Rattle.aes.specs.Directions.{laid-of}
+use Rattle.aes.proofs.CallsLaws.{key-length, key-long, let-through, single-is}
+use Rattle.aes.proofs.single.call.Statement.{statement}
+use Rattle.aes.proofs.single.call.Tie as tie
 
 answer-requires : tie.Need-answer-requires
 answer-requires c κs = search needs
@@ -22,16 +22,17 @@ enum-told-2 : tie.Need-enum-told-2
 enum-told-2 c = search needs
 
 returns : tie.Need-returns
-unfolding Encrypt-outcome
-returns c = answered-refused _ _ _ _ _ _ _ _ _ (c .before .before .answer .ensures) _ (c .enum-told2 .given .1)
+returns c =
+    let a = c .before .before .before .before .before .before .before .args in
+    answered-refused _ _ _ _ _ _ _ _ _ (c .before .before .answer .ensures) _ (c .enum-told2 .given .1) ∙ single-is (a .which) (a .order) (now (a .key)) (now (a .input)) (now (a .tape)) (now (a .output))
 
 key-words-requires : tie.Need-key-words-requires
 key-words-requires c κs =
     let a = c .before .before .before .before .before .before .before .args in
     let-through Single (a .order) (length (now (a .key))) (length (now (a .input))) (length (now (a .tape))) (length (now (a .output))) _ _ (c .before .before .answer .ensures) (c .enum-told .given .1) .order
 
-encrypt-core-requires : tie.Need-encrypt-core-requires
-encrypt-core-requires c κs =
+block-core-requires : tie.Need-block-core-requires
+block-core-requires c κs =
     let a = c .before .before .before .before .before .before .before .before .before .args in
     let t = let-through Single (a .order) (length (now (a .key))) (length (now (a .input))) (length (now (a .tape))) (length (now (a .output))) _ _ (c .before .before .before .before .answer .ensures) (c .before .before .enum-told .given .1) in
     let w = c .before .key-words .ensures in
@@ -41,16 +42,15 @@ same-length : tie.Need-same-length
 same-length c = search needs
 
 returns-2 : tie.Need-returns-2
-unfolding Encrypt-outcome
 returns-2 c =
     let a = c .before .before .before .before .before .before .before .before .before .before .before .before .args in
     let t = let-through Single (a .order) (length (now (a .key))) (length (now (a .input))) (length (now (a .tape))) (length (now (a .output))) _ _ (c .before .before .before .before .before .before .before .answer .ensures) (c .before .before .before .before .before .enum-told .given .1) in
     let w = c .before .before .before .before .key-words .ensures .0 in
-    let made = c .before .before .encrypt-core .ensures in
-    answered-done _ _ _ _ _ _ _ _ _ (c .before .before .before .before .before .before .before .answer .ensures) _ _ _ (c .before .before .before .before .before .enum-told .given .1) (made .0 ∙ ap (λ (n : ℕ). cipher-need n (a .order)) w ∙ sym (t .counted)) (made .1 ∙ ap (λ (n : ℕ). encrypted-laid n (a .order) (now (a .key)) (now (a .input)) (now (a .tape))) w)
+    let made = c .before .before .block-core .ensures in
+    answered-done _ _ _ _ _ _ _ _ _ (c .before .before .before .before .before .before .before .answer .ensures) _ _ _ (c .before .before .before .before .before .enum-told .given .1) (made .0 ∙ ap (λ (n : ℕ). cipher-need n (a .order)) w ∙ sym (t .counted)) (made .1 ∙ ap (λ (n : ℕ). laid-of (a .which) n (a .order) (now (a .key)) (now (a .input)) (now (a .tape))) w) ∙ single-is (a .which) (a .order) (now (a .key)) (now (a .input)) (now (a .tape)) (now (a .output))
 
-pub encrypt-spec : {M : Type 1} → statement M
-encrypt-spec =
+pub call-spec : {M : Type 1} → statement M
+call-spec =
     tie.close
     (tie.spec
     answer-requires
@@ -58,6 +58,6 @@ encrypt-spec =
     enum-told-2
     returns
     key-words-requires
-    encrypt-core-requires
+    block-core-requires
     same-length
     returns-2)

@@ -1,0 +1,87 @@
+// Encryption and decryption of one block over shares by a single call. Document 01, and document 02, wish 2, decide.
+ghost use mathlib.Core.Path.{_≡_};
+ghost use Prim.Native.Nat.{suc, _+_, _*_, _≤_};
+ghost use lib.ListN.{length};
+ghost use Rattle.shares.specs.Outcome.{outcome};
+ghost use Rattle.cipher.specs.Fips197.{rounds};
+ghost use Rattle.cipher.specs.Cipher as Cipher;
+ghost use Rattle.aes.specs.Calls.{Encrypt-outcome, Decrypt-outcome};
+ghost use Rattle.aes.specs.Directions.{laid-of, Single-outcome};
+use crate::Route;
+use crate::sizes;
+use gf256::Direction;
+use shares::Answer;
+
+// The key expansion draws first, then the rounds.
+fn block_with(
+    which: Direction,
+    nk: usize,
+    d: usize,
+    key: &[u8],
+    input: &[u8],
+    tape: &[u8],
+    keys: &mut [u8],
+    output: &mut [u8],
+) -> usize
+    requires { ⌜ (d ≤ 8) × (1 ≤ nk) × (nk ≤ 8) × (length (now key) ≡ suc d * (4 * nk)) × (length (now input) ≡ suc d * 16) × (length (now keys) ≡ suc d * (16 * suc (rounds nk))) × (length (now output) ≡ suc d * 16) × (Cipher.cipher-need nk d ≤ length (now tape)) ⌝ }
+    ensures { λ r. ⌜ (r ≡ Cipher.cipher-need nk d) × (now (output .exit) ≡ laid-of which nk d (now (key .entry)) (now (input .entry)) (now (tape .entry))) ⌝ }
+{
+    let drawn = schedule::expansion::expand_core(nk, d, key, tape, keys);
+    drawn + crate::rounds::rounds_core(which, nk, d, keys, input, &tape[drawn..], output)
+}
+
+// A block, with a buffer for the round keys: at most 9 shares of 240 bytes.
+fn block_core(
+    which: Direction,
+    nk: usize,
+    d: usize,
+    key: &[u8],
+    input: &[u8],
+    tape: &[u8],
+    output: &mut [u8],
+) -> usize
+    requires { ⌜ (d ≤ 8) × (1 ≤ nk) × (nk ≤ 8) × (length (now key) ≡ suc d * (4 * nk)) × (length (now input) ≡ suc d * 16) × (length (now output) ≡ suc d * 16) × (Cipher.cipher-need nk d ≤ length (now tape)) ⌝ }
+    ensures { λ r. ⌜ (r ≡ Cipher.cipher-need nk d) × (now (output .exit) ≡ laid-of which nk d (now (key .entry)) (now (input .entry)) (now (tape .entry))) ⌝ }
+{
+    let mut keys = [0u8; 2160];
+    let size = sizes::prepared_length(nk, d);
+    block_with(which, nk, d, key, input, tape, &mut keys[0..size], output)
+}
+
+// A single call: the round keys are made anew, used, and left behind.
+fn call(
+    which: Direction,
+    order: usize,
+    key: &[u8],
+    input: &[u8],
+    tape: &[u8],
+    output: &mut [u8],
+) -> Answer
+    ensures { λ r. ⌜ outcome r (now (output .exit)) ≡ Single-outcome which order (now (key .entry)) (now (input .entry)) (now (tape .entry)) (now (output .entry)) ⌝ }
+{
+    let answer = crate::blocks::answer(
+        Route::Single,
+        order,
+        key.len(),
+        input.len(),
+        tape.len(),
+        output.len(),
+    );
+    let Answer::Taken(_) = answer else {
+        return answer;
+    };
+    let nk = sizes::key_words(order, key.len());
+    Answer::Taken(block_core(which, nk, order, key, input, tape, output))
+}
+
+pub fn encrypt(order: usize, key: &[u8], input: &[u8], tape: &[u8], output: &mut [u8]) -> Answer
+    ensures { λ r. ⌜ outcome r (now (output .exit)) ≡ Encrypt-outcome order (now (key .entry)) (now (input .entry)) (now (tape .entry)) (now (output .entry)) ⌝ }
+{
+    call(Direction::Forward, order, key, input, tape, output)
+}
+
+pub fn decrypt(order: usize, key: &[u8], input: &[u8], tape: &[u8], output: &mut [u8]) -> Answer
+    ensures { λ r. ⌜ outcome r (now (output .exit)) ≡ Decrypt-outcome order (now (key .entry)) (now (input .entry)) (now (tape .entry)) (now (output .entry)) ⌝ }
+{
+    call(Direction::Inverse, order, key, input, tape, output)
+}

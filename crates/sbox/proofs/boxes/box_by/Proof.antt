@@ -1,0 +1,53 @@
+-- `sbox::boxes::box_by` meets its contract. Assumes nothing.
+use mathlib.Core.Path.{sym, ap, _∙_}
+use denote.Ref.{now}
+use Rattle.gf256.specs.declared.Direction.{Direction}
+use Rattle.sbox.specs.Box.{box-of}
+use borrow.Author.Needs.{needs}
+use Rattle.sbox.proofs.boxes.box_by.Statement.{statement}
+use Rattle.sbox.proofs.boxes.box_by.Tie as tie
+
+enum-told : tie.Need-enum-told
+enum-told c = search needs
+
+box-core-requires : tie.Need-box-core-requires
+box-core-requires c κs = search needs
+
+enum-told-2 : tie.Need-enum-told-2
+enum-told-2 c = search needs
+
+inverse-box-core-requires : tie.Need-inverse-box-core-requires
+inverse-box-core-requires c κs = search needs
+
+same-length : tie.Need-same-length
+same-length c = search needs
+
+same-length-2 : tie.Need-same-length-2
+same-length-2 c = search needs
+
+returns : tie.Need-returns
+returns c = let a = c .before .before .before .before .before .before .before .before .before .before .args in let b = c .before .before .box-core .ensures in (b .0, b .1 ∙ sym (ap (λ (w : Direction). box-of w (a .d) (now (a .x)) (now (a .tape))) (c .before .before .before .before .before .enum-told .given .1)))
+
+same-length-3 : tie.Need-same-length-3
+same-length-3 c = search needs
+
+same-length-4 : tie.Need-same-length-4
+same-length-4 c = search needs
+
+returns-2 : tie.Need-returns-2
+returns-2 c = let a = c .before .before .before .before .before .before .before .before .before .before .before .before .args in let b = c .before .before .before .before .inverse-box-core .ensures in (b .0, b .1 ∙ sym (ap (λ (w : Direction). box-of w (a .d) (now (a .x)) (now (a .tape))) (c .before .before .before .before .before .before .before .enum-told2 .given .1)))
+
+pub box-by-spec : {M : Type 1} → statement M
+box-by-spec =
+    tie.close
+    (tie.spec
+    enum-told
+    box-core-requires
+    enum-told-2
+    inverse-box-core-requires
+    same-length
+    same-length-2
+    returns
+    same-length-3
+    same-length-4
+    returns-2)
