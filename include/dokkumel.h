@@ -106,7 +106,7 @@ extern "C" {
 	+ DOKKUMEL_SHARES(order) * DOKKUMEL_SHARES(order))
 
 /* Tape bytes that a call takes. The product, its sheet and the reading of
-   places take the same. */
+   places take the same. DOKKUMEL_ENCRYPT_TAPE is a decryption's too. */
 #define DOKKUMEL_SPLIT_TAPE(order, bytes)  ((order) * (bytes))
 #define DOKKUMEL_REFRESH_TAPE(order)       (order)
 #define DOKKUMEL_PRODUCT_TAPE(order)       ((order) * ((order) + 1) / 2)
@@ -118,7 +118,8 @@ extern "C" {
 #define DOKKUMEL_ENCRYPT_PREPARED_TAPE(order, key_bytes) \
 	(DOKKUMEL_ROUND_SBOXES(key_bytes) * DOKKUMEL_SBOX_TAPE(order))
 
-/* S-boxes of the key expansion, of all rounds, and of a whole encryption. */
+/* S-boxes of the key expansion, of all rounds, and of a whole encryption or
+   decryption. */
 #define DOKKUMEL_KEY_SBOXES(key_bytes) \
 	((key_bytes) == 16 ? 40 : (key_bytes) == 24 ? 32 : 52)
 #define DOKKUMEL_ROUND_SBOXES(key_bytes) \
@@ -261,6 +262,29 @@ uint32_t dokkumel_sbox(size_t order,
  * Refusals: 1, 2, 3, 4, 5.
  */
 uint32_t dokkumel_encrypt(size_t order,
+	const uint8_t *key, size_t key_len,
+	const uint8_t *input, size_t input_len,
+	const uint8_t *tape, size_t tape_len,
+	uint8_t *output, size_t output_len,
+	size_t *taken);
+
+/*
+ * Masked AES decryption of one block, by FIPS 197's inverse cipher: key,
+ * ciphertext and block in shares. The output joins to the block whose
+ * encryption under the same key is the ciphertext. The key schedule is
+ * computed anew in each call, and draws first.
+ *
+ *   key      n * 16, n * 24 or n * 32 bytes; prepared keys are refused with 2
+ *   input    n * 16 bytes
+ *   tape     takes DOKKUMEL_ENCRYPT_TAPE(order, 16), .. 24) or .. 32)
+ *   output   n * 16 bytes
+ *
+ * Other shares of the key than the encryption had serve as well. To decrypt
+ * at another order, join the ciphertext and split it again.
+ *
+ * Refusals: 1, 2, 3, 4, 5. Output and *taken then stay as they were.
+ */
+uint32_t dokkumel_decrypt(size_t order,
 	const uint8_t *key, size_t key_len,
 	const uint8_t *input, size_t input_len,
 	const uint8_t *tape, size_t tape_len,

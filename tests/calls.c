@@ -31,6 +31,7 @@ static const char *const buffer_names[BUFFERS] = { "key", "input", "right", "tap
 		case READ: return by##_read_places(c->order, B(INPUT), B(RIGHT), B(TAPE), PLACES, B(OUTPUT), TOOK); \
 		case SBOX: return by##_sbox(c->order, B(INPUT), B(TAPE), B(OUTPUT), TOOK);                        \
 		case ENCRYPT: return by##_encrypt(c->order, B(KEY), B(INPUT), B(TAPE), B(OUTPUT), TOOK);          \
+		case DECRYPT: return by##_decrypt(c->order, B(KEY), B(INPUT), B(TAPE), B(OUTPUT), TOOK);          \
 		case PREPARE: return by##_prepare(c->order, B(KEY), B(TAPE), B(OUTPUT), TOOK);                    \
 		case ENCRYPT_PREPARED: return by##_encrypt_prepared(c->order, B(KEY), B(INPUT), B(TAPE), B(OUTPUT), TOOK); \
 		default: *TOOK = by##_unused_tape(B(TAPE), c->count); return 0;                                   \

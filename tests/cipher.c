@@ -1,66 +1,10 @@
-/* The key schedule and the rounds of steps.h. */
-#include "steps.h"
+/* The rounds of steps.h in both directions, from a key and from prepared keys. */
+#include "schedule.h"
 
 #include <string.h>
 
-/* A word and a state in shares: all of share 0, then all of share 1, and so on. */
-typedef uint8_t words_t[MAX_SHARES][4];
+/* A state in shares: all of share 0, then all of share 1, and so on. */
 typedef uint8_t state_t[MAX_SHARES][16];
-typedef uint8_t schedule_t[MAX_SHARES][60][4];
-
-/* The S-box of byte k of a string in shares, whose shares stand so far apart. */
-static void sbox_at(size_t d, uint8_t *string, size_t apart, size_t k, struct tape *t)
-{
-	uint8_t x[MAX_SHARES];
-
-	for (size_t s = 0; s <= d; s++)
-		x[s] = string[s * apart + k];
-	step_sbox(d, x, t);
-	for (size_t s = 0; s <= d; s++)
-		string[s * apart + k] = x[s];
-}
-
-static void sub_word(size_t d, words_t word, struct tape *t)
-{
-	for (size_t k = 0; k < 4; k++)
-		sbox_at(d, word[0], 4, k, t);
-}
-
-/* SubWord, RotWord, Rcon: the masked SubWord comes first. */
-static void turned_word(size_t d, words_t word, uint8_t rcon, struct tape *t)
-{
-	sub_word(d, word, t);
-	for (size_t s = 0; s <= d; s++) {
-		uint8_t first = word[s][0];
-
-		memmove(word[s], word[s] + 1, 3);
-		word[s][3] = first;
-	}
-	word[0][0] ^= rcon;
-}
-
-static void expand_key(size_t d, size_t words, const uint8_t *key, struct tape *t, schedule_t w)
-{
-	uint8_t rcon = 1;
-
-	for (size_t s = 0; s <= d; s++)
-		memcpy(w[s], key + s * 4 * words, 4 * words);
-	for (size_t i = words; i < 4 * (words + 7); i++) {
-		words_t word;
-
-		for (size_t s = 0; s <= d; s++)
-			memcpy(word[s], w[s][i - 1], 4);
-		if (i % words == 0) {
-			turned_word(d, word, rcon, t);
-			rcon = step_times(rcon, 2);
-		} else if (words == 8 && i % 8 == 4) {
-			sub_word(d, word, t);
-		}
-		for (size_t s = 0; s <= d; s++)
-			for (size_t k = 0; k < 4; k++)
-				w[s][i][k] = w[s][i - words][k] ^ word[s][k];
-	}
-}
 
 static void add_round_key(size_t d, state_t state, schedule_t w, size_t round)
 {
@@ -70,26 +14,30 @@ static void add_round_key(size_t d, state_t state, schedule_t w, size_t round)
 }
 
 /* Row by row: bytes 0, 4, 8, 12, 1, 5, and so on. */
-static void sub_bytes(size_t d, state_t state, struct tape *t)
+static void sub_bytes(size_t d, step_box *box, state_t state, struct tape *t)
 {
 	for (size_t row = 0; row < 4; row++)
 		for (size_t column = 0; column < 4; column++)
-			sbox_at(d, state[0], 16, row + 4 * column, t);
+			step_box_at(d, box, state[0], 16, row + 4 * column, t);
 }
 
-static void shift_rows(uint8_t *s)
+/* Turns row r left by r columns so many times: once for ShiftRows; three times for InvShiftRows, which turns it right by r. */
+static void shift_rows(uint8_t *s, size_t times)
 {
 	uint8_t old[16];
 
 	memcpy(old, s, 16);
 	for (size_t row = 0; row < 4; row++)
 		for (size_t column = 0; column < 4; column++)
-			s[row + 4 * column] = old[row + 4 * ((column + row) % 4)];
+			s[row + 4 * column] = old[row + 4 * ((column + times * row) % 4)];
 }
 
-static void mix_columns(uint8_t *s)
+/* FIPS 197, MixColumns and InvMixColumns: the first rows of their matrices. Each further row is the one above, turned right by one. */
+static const uint8_t mix[4] = { 0x02, 0x03, 0x01, 0x01 };
+static const uint8_t inverse_mix[4] = { 0x0e, 0x0b, 0x0d, 0x09 };
+
+static void mix_columns(uint8_t *s, const uint8_t factor[4])
 {
-	static const uint8_t factor[4] = { 2, 3, 1, 1 };
 	uint8_t old[16];
 
 	memcpy(old, s, 16);
@@ -107,12 +55,30 @@ static void all_rounds(size_t d, size_t rounds, schedule_t w, const uint8_t *blo
 	memcpy(state, block, 16 * (d + 1));
 	add_round_key(d, state, w, 0);
 	for (size_t round = 1; round <= rounds; round++) {
-		sub_bytes(d, state, t);
+		sub_bytes(d, step_sbox, state, t);
 		for (size_t s = 0; s <= d; s++)
-			shift_rows(state[s]);
+			shift_rows(state[s], 1);
 		for (size_t s = 0; s <= d && round < rounds; s++)
-			mix_columns(state[s]);
+			mix_columns(state[s], mix);
 		add_round_key(d, state, w, round);
+	}
+	memcpy(out, state, 16 * (d + 1));
+}
+
+/* FIPS 197, 5.3: the round keys from the last to the first, and the S-boxes on the state that InvShiftRows left. */
+static void inverse_rounds(size_t d, size_t rounds, schedule_t w, const uint8_t *block, struct tape *t, uint8_t *out)
+{
+	state_t state;
+
+	memcpy(state, block, 16 * (d + 1));
+	add_round_key(d, state, w, rounds);
+	for (size_t round = rounds; round-- > 0;) {
+		for (size_t s = 0; s <= d; s++)
+			shift_rows(state[s], 3);
+		sub_bytes(d, step_inverse_sbox, state, t);
+		add_round_key(d, state, w, round);
+		for (size_t s = 0; s <= d && round > 0; s++)
+			mix_columns(state[s], inverse_mix);
 	}
 	memcpy(out, state, 16 * (d + 1));
 }
@@ -121,8 +87,16 @@ void step_encrypt(size_t d, size_t words, const uint8_t *key, const uint8_t *blo
 {
 	schedule_t w;
 
-	expand_key(d, words, key, t, w);
+	schedule_expand(d, words, key, t, w);
 	all_rounds(d, words + 6, w, block, t, out);
+}
+
+void step_decrypt(size_t d, size_t words, const uint8_t *key, const uint8_t *block, struct tape *t, uint8_t *out)
+{
+	schedule_t w;
+
+	schedule_expand(d, words, key, t, w);
+	inverse_rounds(d, words + 6, w, block, t, out);
 }
 
 /* Bytes of all round keys: one of 16 bytes for each round, and the one that is added first. */
@@ -136,7 +110,7 @@ void step_prepare(size_t d, size_t words, const uint8_t *key, struct tape *t, ui
 	size_t each = schedule_length(words);
 	schedule_t w;
 
-	expand_key(d, words, key, t, w);
+	schedule_expand(d, words, key, t, w);
 	for (size_t s = 0; s <= d; s++)
 		memcpy(prepared + s * each, w[s], each);
 }

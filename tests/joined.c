@@ -19,7 +19,7 @@ void joined_make(struct joined *j, const struct plan *c, const struct guarded *g
 	struct tape none = { NULL, 0 };
 
 	j->len = c->len[OUTPUT] / n;
-	j->whose = c->routine == ENCRYPT ? "OpenSSL's" : "the plain standard's";
+	j->whose = c->routine == ENCRYPT || c->routine == DECRYPT ? "OpenSSL's" : "the plain standard's";
 	joined_string(j->made, g[OUTPUT].lent, n, j->len);
 	joined_string(key, g[KEY].before, n, c->len[KEY] / n);
 	if (c->routine == PREPARE) {
@@ -29,6 +29,8 @@ void joined_make(struct joined *j, const struct plan *c, const struct guarded *g
 	joined_string(block, g[INPUT].before, n, 16);
 	if (c->routine == ENCRYPT)
 		openssl_encrypt(key, 4 * words, block, j->want);
+	else if (c->routine == DECRYPT)
+		openssl_decrypt(key, 4 * words, block, j->want);
 	else
 		step_encrypt_prepared(0, words, key, block, &none, j->want);
 }

@@ -18,8 +18,8 @@ struct joined {
 void joined_string(uint8_t *out, const uint8_t *shares, size_t n, size_t l);
 
 /*
- * Of a call that was carried through. An encryption with a key is OpenSSL's to repeat; round keys, and an encryption from whatever the
- * prepared keys hold, the plain standard's: steps.h at order 0, which draws nothing.
+ * Of a call that was carried through. An encryption or a decryption with a key is OpenSSL's to repeat; round keys, and an encryption from
+ * whatever the prepared keys hold, the plain standard's: steps.h at order 0, which draws nothing.
  */
 void joined_make(struct joined *j, const struct plan *c, const struct guarded *g);
 

@@ -11,7 +11,7 @@ void known_is(int good, const char *what);
 /* Ends the program unless good answers 1 for example e at orders 1, 2, 3 and 8, each on several tapes. */
 void known_on_tapes(const char *name, size_t e, int (*good)(size_t e, size_t d, const uint8_t *tape, size_t tape_len));
 
-/* FIPS 197's examples of encryption, by the single call and from prepared keys. */
+/* FIPS 197's examples of encryption, by the single call, backwards, and from prepared keys. */
 void known_published(void);
 
 /* FIPS 197's examples of key expansion, as what prepared keys join to. */
@@ -20,8 +20,11 @@ void known_round_keys(void);
 /* Document 01's small values and edges. */
 void known_small(void);
 
-/* The refusals of prepare and encrypt_prepared, in their order and at every length. */
-void known_prepared(void);
+/* Blocks that are encrypted and decrypted, or the other way round: they come back. */
+void known_trips(uint64_t seed);
+
+/* The refusals of all calls that take a key, in their order and at every length. */
+void known_refusals(void);
 
 /* The header's macros: just so much is served, and a byte more or less refused. */
 void known_macros(void);

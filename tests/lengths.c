@@ -13,7 +13,7 @@ static void fit_key(struct plan *p, size_t d, size_t l)
 		return;
 	}
 	len[INPUT] = len[OUTPUT] = DOKKUMEL_SHARED(d, 16);
-	len[TAPE] = p->routine == ENCRYPT ? DOKKUMEL_ENCRYPT_TAPE(d, l) : DOKKUMEL_ENCRYPT_PREPARED_TAPE(d, l);
+	len[TAPE] = p->routine == ENCRYPT_PREPARED ? DOKKUMEL_ENCRYPT_PREPARED_TAPE(d, l) : DOKKUMEL_ENCRYPT_TAPE(d, l);
 }
 
 void lengths_fit(struct plan *p, size_t d, size_t l)
@@ -40,6 +40,7 @@ void lengths_fit(struct plan *p, size_t d, size_t l)
 		len[INPUT] = len[OUTPUT] = n, len[TAPE] = DOKKUMEL_SBOX_TAPE(d);
 		break;
 	case ENCRYPT:
+	case DECRYPT:
 	case PREPARE:
 	case ENCRYPT_PREPARED:
 		fit_key(p, d, l);

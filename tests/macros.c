@@ -1,6 +1,7 @@
 /* The header's macros against the library: just so much is served, and one byte less, or one place more, is not. */
 #include "known.h"
 
+#include "block_call.h"
 #include "dokkumel.h"
 
 #include <stdio.h>
@@ -67,15 +68,30 @@ static void of_places(size_t d)
 
 static void of_strings(size_t d, size_t l)
 {
-	size_t shared = DOKKUMEL_SHARED(d, l), block = DOKKUMEL_SHARED(d, 16), need = DOKKUMEL_SPLIT_TAPE(d, l), taken = 0;
+	size_t shared = DOKKUMEL_SHARED(d, l), need = DOKKUMEL_SPLIT_TAPE(d, l), taken = 0;
 
 	is(dokkumel_split(d, zeros, l, zeros, need, out, shared, &taken) == 0 && taken == need, "DOKKUMEL_SPLIT_TAPE", d, l);
 	is(dokkumel_split(d, zeros, l, zeros, need - 1, out, shared, &taken) == 5, "DOKKUMEL_SPLIT_TAPE", d, l);
 	is(dokkumel_join(d, zeros, shared, out, l, &taken) == 0, "DOKKUMEL_SHARED", d, l);
-	need = DOKKUMEL_ENCRYPT_TAPE(d, l);
-	is(dokkumel_encrypt(d, zeros, shared, zeros, block, zeros, need, out, block, &taken) == 0 && taken == need,
-		"DOKKUMEL_ENCRYPT_TAPE", d, l);
-	is(dokkumel_encrypt(d, zeros, shared, zeros, block, zeros, need - 1, out, block, &taken) == 5, "DOKKUMEL_ENCRYPT_TAPE", d, l);
+}
+
+/* The tape of a call on one block, by a macro of that name. */
+static void of_block(block_call *call, size_t key_len, size_t need, const char *name, size_t d, size_t l)
+{
+	size_t block = DOKKUMEL_SHARED(d, 16), taken = 0;
+
+	is(call(d, zeros, key_len, zeros, block, zeros, need, out, block, &taken) == 0 && taken == need, name, d, l);
+	is(call(d, zeros, key_len, zeros, block, zeros, need - 1, out, block, &taken) == 5, name, d, l);
+}
+
+static void of_keys(size_t d, size_t l)
+{
+	size_t shared = DOKKUMEL_SHARED(d, l), prepared = DOKKUMEL_PREPARED(d, l), need = DOKKUMEL_ENCRYPT_TAPE(d, l);
+
+	of_block(dokkumel_encrypt, shared, need, "DOKKUMEL_ENCRYPT_TAPE", d, l);
+	of_block(dokkumel_decrypt, shared, need, "DOKKUMEL_ENCRYPT_TAPE, for a decryption,", d, l);
+	need = DOKKUMEL_ENCRYPT_PREPARED_TAPE(d, l);
+	of_block(dokkumel_encrypt_prepared, prepared, need, "DOKKUMEL_ENCRYPT_PREPARED_TAPE", d, l);
 }
 
 static void of_prepared(size_t d, size_t l)
@@ -87,10 +103,6 @@ static void of_prepared(size_t d, size_t l)
 	is(dokkumel_prepare(d, zeros, shared, zeros, need - 1, out, prepared, &taken) == 5, "DOKKUMEL_PREPARE_TAPE", d, l);
 	is(dokkumel_prepare(d, zeros, shared, zeros, need, out, prepared + 1, &taken) == 4, "DOKKUMEL_PREPARED", d, l);
 	need = DOKKUMEL_ENCRYPT_PREPARED_TAPE(d, l);
-	is(dokkumel_encrypt_prepared(d, zeros, prepared, zeros, block, zeros, need, out, block, &taken) == 0 && taken == need,
-		"DOKKUMEL_ENCRYPT_PREPARED_TAPE", d, l);
-	is(dokkumel_encrypt_prepared(d, zeros, prepared, zeros, block, zeros, need - 1, out, block, &taken) == 5,
-		"DOKKUMEL_ENCRYPT_PREPARED_TAPE", d, l);
 	is(dokkumel_encrypt_prepared(d, zeros, prepared + 1, zeros, block, zeros, need, out, block, &taken) == 2, "DOKKUMEL_PREPARED", d, l);
 }
 
@@ -103,6 +115,7 @@ void known_macros(void)
 		of_places(d);
 		for (size_t l = 16; l <= 32; l += 8) {
 			of_strings(d, l);
+			of_keys(d, l);
 			of_prepared(d, l);
 		}
 	}

@@ -30,20 +30,22 @@ static uint64_t fresh_seed(void)
 int main(int argc, char **argv)
 {
 	uint64_t seed = argc > 1 ? strtoull(argv[1], NULL, 0) : fresh_seed();
-	unsigned long calls = argc > 2 ? strtoul(argv[2], NULL, 0) : 33000;
+	unsigned long calls = argc > 2 ? strtoul(argv[2], NULL, 0) : 36000;
 
 	setvbuf(stdout, NULL, _IOLBF, 0);
 	known_published();
 	known_round_keys();
-	puts("FIPS 197's examples at orders 1, 2, 3 and 8, by either route, and its round keys: as printed");
+	puts("FIPS 197's examples at orders 1, 2, 3 and 8, by either route and backwards, and its round keys: as printed");
 	known_small();
 	puts("document 01's small values and edges: as told");
-	known_prepared();
-	puts("refusals of prepare and encrypt_prepared: in their order, and at every length");
+	known_refusals();
+	puts("refusals of the calls that take a key: in their order, and at every length");
 	known_macros();
 	puts("the header's macros: exact");
 	calls_try_guards();
 	puts("guards: every change is found");
+	known_trips(seed);
+	puts("encrypted and decrypted, or the other way round, at one order and at two: every block comes back");
 	printf("%lu random calls, seed %" PRIu64 "\n", calls, seed);
 	calls_compare(seed, calls);
 	puts("ok");

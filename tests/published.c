@@ -1,7 +1,7 @@
-/* FIPS 197's examples of encryption, through splitting, encryption by either route, and joining. */
+/* FIPS 197's examples of encryption, through splitting, encryption by either route or decryption, and joining. */
 #include "known.h"
 
-#include "dokkumel.h"
+#include "shared.h"
 
 #include <stdio.h>
 #include <string.h>
@@ -30,74 +30,49 @@ static const struct {
 		{ 0x8e, 0xa2, 0xb7, 0xca, 0x51, 0x67, 0x45, 0xbf, 0xea, 0xfc, 0x49, 0x90, 0x4b, 0x49, 0x60, 0x89 } },
 };
 
-/* An example in shares, and what is left of the tape. */
-struct shared {
-	size_t d, key_bytes, key_len, block_len;
-	uint8_t key[DOKKUMEL_SHARED(8, 32)], block[DOKKUMEL_SHARED(8, 16)];
-	const uint8_t *tape;
-	size_t tape_len;
-};
-
-static void move_on(struct shared *s, size_t taken)
-{
-	size_t at = dokkumel_unused_tape(s->tape, s->tape_len, taken);
-
-	s->tape += at;
-	s->tape_len -= at;
-}
-
-static int split(struct shared *s, size_t e, size_t d, const uint8_t *tape, size_t tape_len)
-{
-	size_t key_bytes = examples[e].key_len, taken = 0;
-
-	*s = (struct shared){ .d = d, .key_bytes = key_bytes, .key_len = DOKKUMEL_SHARED(d, key_bytes),
-		.block_len = DOKKUMEL_SHARED(d, 16), .tape = tape, .tape_len = tape_len };
-	if (dokkumel_split(d, examples[e].key, key_bytes, s->tape, s->tape_len, s->key, s->key_len, &taken) != DOKKUMEL_OK)
-		return 0;
-	move_on(s, taken);
-	if (dokkumel_split(d, examples[e].block, 16, s->tape, s->tape_len, s->block, s->block_len, &taken) != DOKKUMEL_OK)
-		return 0;
-	move_on(s, taken);
-	return 1;
-}
-
-static int as_printed(const struct shared *s, size_t e, const uint8_t *output)
+static int joins_to(const struct shared *s, const uint8_t *shares, const uint8_t want[16])
 {
 	uint8_t joined[16] = { 0 };
-	size_t taken = 1;
 
-	return dokkumel_join(s->d, output, s->block_len, joined, 16, &taken) == DOKKUMEL_OK && taken == 0
-		&& memcmp(joined, examples[e].want, 16) == 0;
+	return shared_join(s, shares, joined) && memcmp(joined, want, 16) == 0;
 }
 
-static int by_single_call(size_t e, size_t d, const uint8_t *tape, size_t tape_len)
+/* By a single call: an example's block or ciphertext becomes the other. */
+static int becomes(block_call *call, size_t e, const uint8_t from[16], const uint8_t to[16], size_t d, const uint8_t *tape, size_t tape_len)
 {
-	uint8_t output[DOKKUMEL_SHARED(8, 16)] = { 0 };
 	struct shared s;
-	size_t taken = 0;
 
-	return split(&s, e, d, tape, tape_len)
-		&& dokkumel_encrypt(d, s.key, s.key_len, s.block, s.block_len, s.tape, s.tape_len, output, s.block_len, &taken) == DOKKUMEL_OK
-		&& taken == (size_t)DOKKUMEL_ENCRYPT_TAPE(d, s.key_bytes) && as_printed(&s, e, output);
+	return shared_split(&s, d, examples[e].key, examples[e].key_len, from, tape, tape_len) && shared_pass(&s, call)
+		&& joins_to(&s, s.block, to);
+}
+
+static int encrypts(size_t e, size_t d, const uint8_t *tape, size_t tape_len)
+{
+	return becomes(dokkumel_encrypt, e, examples[e].block, examples[e].want, d, tape, tape_len);
+}
+
+static int decrypts(size_t e, size_t d, const uint8_t *tape, size_t tape_len)
+{
+	return becomes(dokkumel_decrypt, e, examples[e].want, examples[e].block, d, tape, tape_len);
 }
 
 /* Prepared once, and encrypted from twice. */
-static int by_prepared_keys(size_t e, size_t d, const uint8_t *tape, size_t tape_len)
+static int encrypts_prepared(size_t e, size_t d, const uint8_t *tape, size_t tape_len)
 {
 	uint8_t prepared[DOKKUMEL_PREPARED(8, 32)] = { 0 }, output[DOKKUMEL_SHARED(8, 16)] = { 0 };
 	size_t prepared_len = DOKKUMEL_PREPARED(d, examples[e].key_len), taken = 0;
 	struct shared s;
 
-	if (!split(&s, e, d, tape, tape_len)
+	if (!shared_split(&s, d, examples[e].key, examples[e].key_len, examples[e].block, tape, tape_len)
 		|| dokkumel_prepare(d, s.key, s.key_len, s.tape, s.tape_len, prepared, prepared_len, &taken) != DOKKUMEL_OK
 		|| taken != (size_t)DOKKUMEL_PREPARE_TAPE(d, s.key_bytes))
 		return 0;
 	for (int turn = 0; turn < 2; turn++) {
-		move_on(&s, taken);
+		shared_move_on(&s, taken);
 		memset(output, 0, sizeof output);
 		if (dokkumel_encrypt_prepared(d, prepared, prepared_len, s.block, s.block_len, s.tape, s.tape_len,
 			output, s.block_len, &taken) != DOKKUMEL_OK
-			|| taken != (size_t)DOKKUMEL_ENCRYPT_PREPARED_TAPE(d, s.key_bytes) || !as_printed(&s, e, output))
+			|| taken != (size_t)DOKKUMEL_ENCRYPT_PREPARED_TAPE(d, s.key_bytes) || !joins_to(&s, output, examples[e].want))
 			return 0;
 	}
 	return 1;
@@ -108,8 +83,10 @@ void known_published(void)
 	char name[40];
 
 	for (size_t e = 0; e < sizeof examples / sizeof examples[0]; e++) {
-		known_on_tapes(examples[e].name, e, by_single_call);
+		known_on_tapes(examples[e].name, e, encrypts);
+		snprintf(name, sizeof name, "%s, backwards", examples[e].name);
+		known_on_tapes(name, e, decrypts);
 		snprintf(name, sizeof name, "%s, from prepared keys", examples[e].name);
-		known_on_tapes(name, e, by_prepared_keys);
+		known_on_tapes(name, e, encrypts_prepared);
 	}
 }

@@ -23,26 +23,50 @@ static size_t prepared_words(size_t total, size_t n)
 	return total == n * 176 ? 4 : total == n * 208 ? 6 : total == n * 240 ? 8 : 0;
 }
 
-uint32_t second_encrypt(size_t order, const uint8_t *key, size_t key_len, const uint8_t *input, size_t input_len,
-	const uint8_t *tape, size_t tape_len, uint8_t *output, size_t output_len, size_t *taken)
+/* One block, by a step that draws so many S-boxes. words is 0 where the key's length fits no size; 1 is asked before it. */
+static uint32_t one_block(step_block *step, size_t sboxes, size_t words, size_t order, const uint8_t *key,
+	const uint8_t *input, size_t input_len, const uint8_t *tape, size_t tape_len, uint8_t *output, size_t output_len, size_t *taken)
 {
 	struct tape t = { tape, 0 };
-	size_t words;
 
 	if (order < 1 || order > MAX_ORDER)
 		return 1;
-	words = key_words(key_len, order + 1);
 	if (words == 0)
 		return 2;
 	if (input_len != 16 * (order + 1))
 		return 3;
 	if (output_len != 16 * (order + 1))
 		return 4;
-	if (tape_len < (key_sboxes[words] + round_sboxes[words]) * sbox_tape(order))
+	if (tape_len < sboxes * sbox_tape(order))
 		return 5;
-	step_encrypt(order, words, key, input, &t, output);
+	step(order, words, key, input, &t, output);
 	*taken = t.drawn;
 	return 0;
+}
+
+uint32_t second_encrypt(size_t order, const uint8_t *key, size_t key_len, const uint8_t *input, size_t input_len,
+	const uint8_t *tape, size_t tape_len, uint8_t *output, size_t output_len, size_t *taken)
+{
+	size_t words = key_words(key_len, order + 1), sboxes = key_sboxes[words] + round_sboxes[words];
+
+	return one_block(step_encrypt, sboxes, words, order, key, input, input_len, tape, tape_len, output, output_len, taken);
+}
+
+uint32_t second_decrypt(size_t order, const uint8_t *key, size_t key_len, const uint8_t *input, size_t input_len,
+	const uint8_t *tape, size_t tape_len, uint8_t *output, size_t output_len, size_t *taken)
+{
+	size_t words = key_words(key_len, order + 1), sboxes = key_sboxes[words] + round_sboxes[words];
+
+	return one_block(step_decrypt, sboxes, words, order, key, input, input_len, tape, tape_len, output, output_len, taken);
+}
+
+uint32_t second_encrypt_prepared(size_t order, const uint8_t *prepared, size_t prepared_len, const uint8_t *input, size_t input_len,
+	const uint8_t *tape, size_t tape_len, uint8_t *output, size_t output_len, size_t *taken)
+{
+	size_t words = prepared_words(prepared_len, order + 1), sboxes = round_sboxes[words];
+
+	return one_block(step_encrypt_prepared, sboxes, words, order, prepared, input, input_len, tape, tape_len,
+		output, output_len, taken);
 }
 
 uint32_t second_prepare(size_t order, const uint8_t *key, size_t key_len, const uint8_t *tape, size_t tape_len,
@@ -61,28 +85,6 @@ uint32_t second_prepare(size_t order, const uint8_t *key, size_t key_len, const 
 	if (tape_len < key_sboxes[words] * sbox_tape(order))
 		return 5;
 	step_prepare(order, words, key, &t, output);
-	*taken = t.drawn;
-	return 0;
-}
-
-uint32_t second_encrypt_prepared(size_t order, const uint8_t *prepared, size_t prepared_len, const uint8_t *input, size_t input_len,
-	const uint8_t *tape, size_t tape_len, uint8_t *output, size_t output_len, size_t *taken)
-{
-	struct tape t = { tape, 0 };
-	size_t words;
-
-	if (order < 1 || order > MAX_ORDER)
-		return 1;
-	words = prepared_words(prepared_len, order + 1);
-	if (words == 0)
-		return 2;
-	if (input_len != 16 * (order + 1))
-		return 3;
-	if (output_len != 16 * (order + 1))
-		return 4;
-	if (tape_len < round_sboxes[words] * sbox_tape(order))
-		return 5;
-	step_encrypt_prepared(order, words, prepared, input, &t, output);
 	*taken = t.drawn;
 	return 0;
 }

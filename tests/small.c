@@ -1,8 +1,10 @@
 /* Document 01's small values and edges, through the C interface. */
 #include "known.h"
 
+#include "block_call.h"
 #include "dokkumel.h"
 
+#include <stdio.h>
 #include <string.h>
 
 static const uint8_t zeros[DOKKUMEL_ENCRYPT_TAPE(8, 32)];
@@ -40,21 +42,37 @@ static void boxes(void)
 static void edges(void)
 {
 	static const uint16_t places[] = { 0, 29, 7 }, past[] = { 0, 30 };
-	uint8_t out[DOKKUMEL_SHARED(8, 16)] = { 0 };
+	uint8_t out[10] = { 0 };
 	size_t taken = 0;
 
 	known_is(dokkumel_refresh(8, zeros, 9, zeros, 8, out, 9, &taken) == 0, "order 8 is served");
 	known_is(dokkumel_refresh(9, zeros, 10, zeros, 9, out, 10, &taken) == 1, "order 9 is refused (1)");
 	known_is(dokkumel_refresh(9, zeros, 10, zeros, 0, out, 10, &taken) == 1, "order 9 with an empty tape is refused (1)");
-	known_is(dokkumel_encrypt(1, zeros, 32, zeros, 32, zeros, 1200, out, 32, &taken) == 0 && taken == 1200,
-		"a 16-byte key at order 1 with 1200 tape bytes is served");
-	known_is(dokkumel_encrypt(1, zeros, 32, zeros, 32, zeros, 1199, out, 32, &taken) == 5,
-		"a 16-byte key at order 1 with 1199 tape bytes is refused (5)");
-	known_is(dokkumel_encrypt(1, zeros, 33, zeros, 32, zeros, 1200, out, 32, &taken) == 2, "33 key share bytes at order 1 are refused (2)");
 	known_is(dokkumel_read_places(2, zeros, 3, zeros, 3, zeros, 3, places, 2, out, 2, &taken) == 0,
 		"at order 2, two places are read, 29 among them");
 	known_is(dokkumel_read_places(2, zeros, 3, zeros, 3, zeros, 3, places, 3, out, 3, &taken) == 6, "at order 2, three places are refused (6)");
 	known_is(dokkumel_read_places(2, zeros, 3, zeros, 3, zeros, 3, past, 2, out, 2, &taken) == 7, "at order 2, place 30 is refused (7)");
+}
+
+static void is(int good, const char *call, const char *what)
+{
+	char text[100];
+
+	snprintf(text, sizeof text, "%s: %s", call, what);
+	known_is(good, text);
+}
+
+/* Of an encryption; document 02 has the same of a decryption. */
+static void key_edges(const char *name, block_call *call)
+{
+	uint8_t out[32] = { 0 };
+	size_t taken = 0;
+
+	is(call(1, zeros, 32, zeros, 32, zeros, 1200, out, 32, &taken) == 0 && taken == 1200, name,
+		"a 16-byte key at order 1 with 1200 tape bytes is served");
+	is(call(1, zeros, 32, zeros, 32, zeros, 1199, out, 32, &taken) == 5, name,
+		"a 16-byte key at order 1 with 1199 tape bytes is refused (5)");
+	is(call(1, zeros, 33, zeros, 32, zeros, 1200, out, 32, &taken) == 2, name, "33 key share bytes at order 1 are refused (2)");
 }
 
 void known_small(void)
@@ -62,4 +80,6 @@ void known_small(void)
 	values();
 	boxes();
 	edges();
+	key_edges("encrypt", dokkumel_encrypt);
+	key_edges("decrypt", dokkumel_decrypt);
 }

@@ -21,16 +21,31 @@ uint8_t step_times(uint8_t a, uint8_t b)
 	return (uint8_t)product;
 }
 
+/* Bit i of the answer is the XOR of a's bits i + k, indices modulo 8, for the listed k, and of bit i of c. */
+static uint8_t affine(uint8_t a, const int *list, size_t len, uint8_t c)
+{
+	uint8_t out = c;
+
+	for (int i = 0; i < 8; i++)
+		for (size_t m = 0; m < len; m++)
+			out ^= (uint8_t)((a >> (i + list[m]) % 8 & 1) << i);
+	return out;
+}
+
 /* FIPS 197, SubBytes: b_i + b_(i+4) + b_(i+5) + b_(i+6) + b_(i+7) + c_i. */
 uint8_t step_affine(uint8_t a)
 {
-	unsigned out = 0;
+	static const int list[] = { 0, 4, 5, 6, 7 };
 
-	for (int i = 0; i < 8; i++) {
-		unsigned bit = a >> i ^ a >> (i + 4) % 8 ^ a >> (i + 5) % 8 ^ a >> (i + 6) % 8 ^ a >> (i + 7) % 8 ^ 0x63 >> i;
-		out |= (bit & 1) << i;
-	}
-	return (uint8_t)out;
+	return affine(a, list, 5, 0x63);
+}
+
+/* Document 02, wish 2: bits i + 2, i + 5 and i + 7, and bit i of 05. */
+uint8_t step_inverse_affine(uint8_t a)
+{
+	static const int list[] = { 2, 5, 7 };
+
+	return affine(a, list, 3, 0x05);
 }
 
 void step_refresh(size_t d, uint8_t *x, struct tape *t)
@@ -88,7 +103,8 @@ static void squares(size_t d, uint8_t *y, const uint8_t *x, int times)
 	}
 }
 
-void step_sbox(size_t d, uint8_t *x, struct tape *t)
+/* The shares of x to the 254, in place. */
+static void power_254(size_t d, uint8_t *x, struct tape *t)
 {
 	uint8_t y[MAX_SHARES], z[MAX_SHARES], w[MAX_SHARES];
 
@@ -100,9 +116,35 @@ void step_sbox(size_t d, uint8_t *x, struct tape *t)
 	multiply(d, y, y, w, t);
 	squares(d, y, y, 4);
 	multiply(d, y, y, w, t);
-	multiply(d, y, y, z, t);
+	multiply(d, x, y, z, t);
+}
+
+void step_sbox(size_t d, uint8_t *x, struct tape *t)
+{
+	power_254(d, x, t);
 	for (size_t i = 0; i <= d; i++)
-		x[i] = step_affine(y[i]);
+		x[i] = step_affine(x[i]);
 	if (d % 2 == 1)
 		x[0] ^= 0x63;
+}
+
+/* At odd orders the 05s of all shares cancel out, so share 0 takes in one more, before the power. */
+void step_inverse_sbox(size_t d, uint8_t *x, struct tape *t)
+{
+	for (size_t i = 0; i <= d; i++)
+		x[i] = step_inverse_affine(x[i]);
+	if (d % 2 == 1)
+		x[0] ^= 0x05;
+	power_254(d, x, t);
+}
+
+void step_box_at(size_t d, step_box *box, uint8_t *string, size_t apart, size_t k, struct tape *t)
+{
+	uint8_t x[MAX_SHARES];
+
+	for (size_t s = 0; s <= d; s++)
+		x[s] = string[s * apart + k];
+	box(d, x, t);
+	for (size_t s = 0; s <= d; s++)
+		string[s * apart + k] = x[s];
 }

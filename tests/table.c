@@ -8,15 +8,15 @@
 
 const char *const routine_names[ROUTINES] = {
 	[SPLIT] = "split", [JOIN] = "join", [REFRESH] = "refresh", [PRODUCT] = "product", [SHEET] = "product_sheet",
-	[READ] = "read_places", [SBOX] = "sbox", [ENCRYPT] = "encrypt", [PREPARE] = "prepare",
-	[ENCRYPT_PREPARED] = "encrypt_prepared", [UNUSED] = "unused_tape",
+	[READ] = "read_places", [SBOX] = "sbox", [ENCRYPT] = "encrypt", [DECRYPT] = "decrypt",
+	[PREPARE] = "prepare", [ENCRYPT_PREPARED] = "encrypt_prepared", [UNUSED] = "unused_tape",
 };
 
-/* The outcomes that document 01, and document 02 for prepared keys, give each routine. */
+/* The outcomes that document 01, and document 02 for decryption and prepared keys, give each routine. */
 static const char *const outcomes[ROUTINES] = {
 	[SPLIT] = "01345", [JOIN] = "0134", [REFRESH] = "01345", [PRODUCT] = "01345", [SHEET] = "01345",
-	[READ] = "0134567", [SBOX] = "01345", [ENCRYPT] = "012345", [PREPARE] = "01245",
-	[ENCRYPT_PREPARED] = "012345", [UNUSED] = "0",
+	[READ] = "0134567", [SBOX] = "01345", [ENCRYPT] = "012345", [DECRYPT] = "012345",
+	[PREPARE] = "01245", [ENCRYPT_PREPARED] = "012345", [UNUSED] = "0",
 };
 
 static unsigned long counted[ROUTINES][OUTCOMES];
@@ -87,6 +87,19 @@ static int print_row(enum routine r)
 	return good;
 }
 
+/* Every order, and for a routine that takes a key every key length. */
+static int served_all(enum routine r)
+{
+	int good = 1;
+
+	for (int d = 1; d <= DOKKUMEL_MAX_ORDER; d++) {
+		good &= served[r][d] != 0;
+		for (int k = 0; k < 3 && can(r, 2); k++)
+			good &= keys[r][k][d] != 0;
+	}
+	return good;
+}
+
 int table_print(void)
 {
 	int good = raw_for_prepared != 0 && prepared_for_raw != 0 && other_orders != 0;
@@ -94,12 +107,8 @@ int table_print(void)
 	puts("routine           calls  carried     1     2     3     4     5     6     7   (refused, by number)");
 	for (int r = 0; r < ROUTINES; r++)
 		good &= print_row((enum routine)r);
-	for (int d = 1; d <= DOKKUMEL_MAX_ORDER; d++) {
-		for (int r = 0; r < UNUSED; r++)
-			good &= served[r][d] != 0;
-		for (int k = 0; k < 3; k++)
-			good &= keys[ENCRYPT][k][d] != 0 && keys[PREPARE][k][d] != 0 && keys[ENCRYPT_PREPARED][k][d] != 0;
-	}
+	for (int r = 0; r < UNUSED; r++)
+		good &= served_all((enum routine)r);
 	printf("refused with 2: %lu keys in place of prepared ones, %lu prepared ones in place of a key, %lu prepared at another order\n",
 		raw_for_prepared, prepared_for_raw, other_orders);
 	puts(good ? "every outcome came up, and every order and key length was served" : "FAIL: too few kinds of calls");

@@ -1,0 +1,11 @@
+/* Encryption, decryption and encryption from prepared keys have the same parameters: one block in shares, under a key in shares. */
+#ifndef BLOCK_CALL_H
+#define BLOCK_CALL_H
+
+#include <stddef.h>
+#include <stdint.h>
+
+typedef uint32_t block_call(size_t order, const uint8_t *key, size_t key_len, const uint8_t *input, size_t input_len,
+	const uint8_t *tape, size_t tape_len, uint8_t *output, size_t output_len, size_t *taken);
+
+#endif

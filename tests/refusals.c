@@ -1,0 +1,133 @@
+/* The refusals of the calls that take a key: their order, and every length up to some past the longest. */
+#include "known.h"
+
+#include "block_call.h"
+#include "dokkumel.h"
+
+#include <stdio.h>
+#include <string.h>
+
+#define LONGEST 2400
+
+static const uint8_t zeros[DOKKUMEL_ENCRYPT_TAPE(8, 32)];
+static uint8_t out[LONGEST];
+static size_t taken;
+
+/* Bytes of a share of a key, or of its round keys, and the S-boxes of a call: for keys of 16, 24 and 32 bytes, from documents 01 and 02. */
+static const size_t raw[3] = { 16, 24, 32 }, round_keys[3] = { 176, 208, 240 };
+static const size_t key_sboxes[3] = { 40, 32, 52 }, round_sboxes[3] = { 160, 192, 224 }, all_sboxes[3] = { 200, 224, 276 };
+
+static const struct block {
+	const char *name;
+	block_call *call;
+	const size_t *key, *sboxes;
+} blocks[] = {
+	{ "encrypt", dokkumel_encrypt, raw, all_sboxes },
+	{ "decrypt", dokkumel_decrypt, raw, all_sboxes },
+	{ "encrypt_prepared", dokkumel_encrypt_prepared, round_keys, round_sboxes },
+};
+
+static void is(int good, const char *call, const char *what, size_t d, size_t bytes)
+{
+	char text[120];
+
+	snprintf(text, sizeof text, "%s: %s, order %zu, %zu bytes", call, what, d, bytes);
+	known_is(good, text);
+}
+
+/* Fills output and count, so that a refusal can be seen to leave them. */
+static void before(void)
+{
+	memset(out, 0xa5, sizeof out);
+	taken = 12345;
+}
+
+static int refused(uint32_t status, uint32_t number)
+{
+	for (size_t k = 0; k < sizeof out; k++)
+		if (out[k] != 0xa5)
+			return 0;
+	return status == number && taken == 12345;
+}
+
+static uint32_t prepare(size_t d, size_t key_len, size_t output_len, size_t tape_len)
+{
+	before();
+	return dokkumel_prepare(d, zeros, key_len, zeros, tape_len, out, output_len, &taken);
+}
+
+static uint32_t block(const struct block *b, size_t d, size_t key_len, size_t input_len, size_t output_len, size_t tape_len)
+{
+	before();
+	return b->call(d, zeros, key_len, zeros, input_len, zeros, tape_len, out, output_len, &taken);
+}
+
+/* All causes at once, and then one less in each line. */
+static void prepare_in_order(size_t d, size_t size)
+{
+	size_t l = raw[size], key = (d + 1) * l, prepared = (d + 1) * round_keys[size], need = key_sboxes[size] * DOKKUMEL_SBOX_TAPE(d);
+
+	is(refused(prepare(9, key + 1, prepared + 1, need - 1), 1), "prepare", "1 first", d, l);
+	is(refused(prepare(d, key + 1, prepared + 1, need - 1), 2), "prepare", "2 next", d, l);
+	is(refused(prepare(d, key, prepared + 1, need - 1), 4), "prepare", "then 4", d, l);
+	is(refused(prepare(d, key, prepared, need - 1), 5), "prepare", "then 5", d, l);
+	is(prepare(d, key, prepared, need) == 0 && taken == need, "prepare", "served", d, l);
+}
+
+/* The same for a call on one block. */
+static void block_in_order(const struct block *b, size_t d, size_t size)
+{
+	size_t l = raw[size], key = (d + 1) * b->key[size], shared = (d + 1) * 16, need = b->sboxes[size] * DOKKUMEL_SBOX_TAPE(d);
+
+	is(refused(block(b, 9, key + 1, shared + 1, shared + 1, need - 1), 1), b->name, "1 first", d, l);
+	is(refused(block(b, d, key + 1, shared + 1, shared + 1, need - 1), 2), b->name, "2 next", d, l);
+	is(refused(block(b, d, key, shared + 1, shared + 1, need - 1), 3), b->name, "then 3", d, l);
+	is(refused(block(b, d, key, shared, shared + 1, need - 1), 4), b->name, "then 4", d, l);
+	is(refused(block(b, d, key, shared, shared, need - 1), 5), b->name, "then 5", d, l);
+	is(block(b, d, key, shared, shared, need) == 0 && taken == need, b->name, "served", d, l);
+}
+
+/* Three lengths have a key's size at order d; any other is refused, among them the other route's and those of other orders. */
+static int fits(size_t len, size_t d, const size_t sizes[3])
+{
+	size_t n = d + 1;
+
+	return len == n * sizes[0] || len == n * sizes[1] || len == n * sizes[2];
+}
+
+static void prepare_at(size_t d, size_t len)
+{
+	size_t n = d + 1;
+
+	is(refused(prepare(d, len, 0, 0), fits(len, d, raw) ? 4 : 2), "prepare", "a key share length", d, len);
+	for (int size = 0; size < 3; size++)
+		is(refused(prepare(d, n * raw[size], len, 0), len == n * round_keys[size] ? 5 : 4), "prepare", "an output length", d, len);
+}
+
+static void block_at(const struct block *b, size_t d, size_t len)
+{
+	size_t shared = (d + 1) * 16, key = (d + 1) * b->key[0];
+
+	is(refused(block(b, d, len, shared, shared, 0), fits(len, d, b->key) ? 5 : 2), b->name, "a key's length", d, len);
+	is(refused(block(b, d, key, len, shared, 0), len == shared ? 5 : 3), b->name, "an input length", d, len);
+	is(refused(block(b, d, key, shared, len, 0), len == shared ? 5 : 4), b->name, "an output length", d, len);
+}
+
+void known_refusals(void)
+{
+	for (size_t d = 1; d <= DOKKUMEL_MAX_ORDER; d++) {
+		for (size_t size = 0; size < 3; size++)
+			prepare_in_order(d, size);
+		for (size_t len = 0; len <= LONGEST; len++)
+			prepare_at(d, len);
+	}
+	for (size_t k = 0; k < sizeof blocks / sizeof blocks[0] * DOKKUMEL_MAX_ORDER; k++) {
+		const struct block *b = &blocks[k / DOKKUMEL_MAX_ORDER];
+		size_t d = 1 + k % DOKKUMEL_MAX_ORDER;
+
+		for (size_t size = 0; size < 3; size++)
+			block_in_order(b, d, size);
+		for (size_t len = 0; len <= LONGEST; len++)
+			block_at(b, d, len);
+	}
+}
