@@ -6,13 +6,14 @@ use Rattle.shares.specs.Outcome.{Outcome, refused}
 use Rattle.shares.specs.Calls.{Split-outcome, Join-outcome, Refresh-outcome}
 use Rattle.masking.specs.Calls.{Product-outcome}
 use Rattle.sbox.specs.Calls.{Box-outcome}
-use Rattle.aes.specs.Calls.{Encrypt-outcome, Prepare-outcome, Encrypt-prepared-outcome}
+use Rattle.aes.specs.Calls.{Encrypt-outcome, Decrypt-outcome, Prepare-outcome, Encrypt-prepared-outcome}
 use Rattle.dokkumel.specs.declared.commands.Command.{Command}
-use Rattle.dokkumel.specs.declared.commands.Command.the-variants.{Encrypt, Prepare, EncryptPrepared, Split, Join, Refresh, Product, Sbox, Read, Sheet, Places, Tape, Help, Unknown}
+use Rattle.dokkumel.specs.declared.commands.Command.the-variants.{Encrypt, Decrypt, Prepare, EncryptPrepared, Split, Join, Refresh, Product, Sbox, Read, Sheet, Places, Tape, Help, Unknown}
 
 -- a command that calls no routine of this form never gets there; it stands as a refused order
 abbrev pub called : Command → (order : ℕ) (first second tape output : List ℕ) → Outcome
 called Encrypt d x y t o = Encrypt-outcome d x y t o
+called Decrypt d x y t o = Decrypt-outcome d x y t o
 called Prepare d x y t o = Prepare-outcome d x t o
 called EncryptPrepared d x y t o = Encrypt-prepared-outcome d x y t o
 called Split d x y t o = Split-outcome d x t o

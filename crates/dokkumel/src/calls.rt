@@ -37,7 +37,9 @@ fn with_first(c: Command, order: usize, first: &[u8], name: &[u8]) {
 fn go_on(c: Command, order: usize, first: &[u8]) {
     match c {
         Command::Join => routines::run(c, order, first, &[], &[]),
-        Command::Encrypt | Command::EncryptPrepared => with_first(c, order, first, b"INPUTSHARES"),
+        Command::Encrypt | Command::Decrypt | Command::EncryptPrepared => {
+            with_first(c, order, first, b"INPUTSHARES")
+        }
         Command::Product | Command::Sheet | Command::Read => with_first(c, order, first, b"RIGHT"),
         _ => with_inputs(c, order, first, &[], 4),
     }
@@ -59,7 +61,9 @@ pub fn run(c: Command) {
         return;
     }
     match c {
-        Command::Encrypt | Command::Prepare => with_order(c, order.value, b"KEYSHARES"),
+        Command::Encrypt | Command::Decrypt | Command::Prepare => {
+            with_order(c, order.value, b"KEYSHARES")
+        }
         Command::EncryptPrepared => with_order(c, order.value, b"PREPARED"),
         Command::Split => with_order(c, order.value, b"INPUT"),
         Command::Join | Command::Refresh | Command::Sbox => with_order(c, order.value, b"SHARES"),

@@ -3,6 +3,7 @@ use crate::faults;
 
 pub enum Command {
     Encrypt,
+    Decrypt,
     Prepare,
     EncryptPrepared,
     Split,
@@ -42,6 +43,9 @@ pub fn named(word: &[u8]) -> Command {
     if text::same(word, b"encrypt") {
         return Command::Encrypt;
     }
+    if text::same(word, b"decrypt") {
+        return Command::Decrypt;
+    }
     if text::same(word, b"prepare") {
         return Command::Prepare;
     }
@@ -70,6 +74,7 @@ pub fn named(word: &[u8]) -> Command {
 fn length(c: Command) -> usize {
     match c {
         Command::Encrypt
+        | Command::Decrypt
         | Command::EncryptPrepared
         | Command::Product
         | Command::Sheet

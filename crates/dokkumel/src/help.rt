@@ -4,6 +4,7 @@ pub fn print() {
     io::write_all(
         1,
         b"dokkumel encrypt ORDER KEYSHARES INPUTSHARES TAPE           AES encryption of one block in shares
+dokkumel decrypt ORDER KEYSHARES INPUTSHARES TAPE           AES decryption of one block in shares
 dokkumel prepare ORDER KEYSHARES TAPE                       all AES round keys in shares, for encrypt-prepared
 dokkumel encrypt-prepared ORDER PREPARED INPUTSHARES TAPE   AES encryption of one block in shares from prepared round keys
 dokkumel split ORDER INPUT TAPE                             16, 24 or 32 bytes into shares
@@ -14,7 +15,7 @@ dokkumel sbox ORDER SHARES TAPE                             S-box of one byte in
 dokkumel sheet ORDER LEFT RIGHT TAPE                        every byte of a product: number, name, byte
 dokkumel read ORDER LEFT RIGHT TAPE PLACE...                the bytes at listed places of a product
 dokkumel places ORDER                                       the places of a product: number, name
-dokkumel tape ORDER KEYBYTES                                which tape bytes go into which step of an encryption
+dokkumel tape ORDER KEYBYTES                                which tape bytes go into which step of an encryption or a decryption
 dokkumel help                                               this text
 ORDER, KEYBYTES and PLACE are decimal. The others are bytes in hexadecimal, share after share; '' is no byte.
 TAPE may be -, for raw bytes from standard input. A call prints its output and the tape bytes taken, or its refusal.

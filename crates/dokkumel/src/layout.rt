@@ -1,5 +1,6 @@
-// The command `tape`: which bytes of the tape go into which step of an encryption. Each function prints some lines, or a part of one, and
-// answers with where the walk then stands. How many bytes a step takes is the library's own number.
+// The command `tape`: which bytes of the tape go into which step of an encryption, or of a decryption, which has as many S-boxes in the same
+// order. Each function prints some lines, or a part of one, and answers with where the walk then stands. How many bytes a step takes is the
+// library's own number.
 ghost use Prim.Native.Nat.{_≤_};
 ghost use Rattle.aes.specs.Fits.{Key-size};
 use crate::answers;
@@ -106,17 +107,20 @@ fn rounds(nk: usize, d: usize, start: Spot) -> Spot
     s
 }
 
-// How many bytes the library asks for: in the single call, and in each of the two calls from prepared keys.
+// How many bytes the library asks for: in the single call, and in each of the two calls from prepared keys. Then how the lines are read for a
+// decryption, whose rounds FIPS 197 counts down.
 fn print_needs(nk: usize, d: usize)
     requires { ⌜ (d ≤ 8) × Key-size nk ⌝ }
 {
     text::print_with(b"total ", aes::needs::cipher_need(nk, d));
     text::print_with(b"\npreparation ", aes::needs::schedule_need(nk, d));
     text::print_with(b", rounds ", aes::needs::rounds_need(nk, d));
-    text::print(b"\n");
+    text::print(
+        b"\ndecryption, in a single call only: the same, where round 1 is the first to run and state bytes are those after InvShiftRows\n",
+    );
 }
 
-// All S-boxes of an encryption with a key of nk words, and its needs.
+// All S-boxes of a call with a key of nk words, and its needs.
 fn print(nk: usize, d: usize)
     requires { ⌜ (d ≤ 8) × Key-size nk ⌝ }
 {

@@ -29,7 +29,7 @@ fn room(c: Command, order: usize, length: usize) -> usize
     }
     let n = order + 1;
     match c {
-        Command::Encrypt | Command::EncryptPrepared => in_shares(n, 16),
+        Command::Encrypt | Command::Decrypt | Command::EncryptPrepared => in_shares(n, 16),
         Command::Prepare => aes::sizes::prepared_length(
             aes::sizes::key_words(order, length),
             order,
@@ -53,6 +53,7 @@ fn call(
 {
     match c {
         Command::Encrypt => aes::encrypt(order, first, second, tape, output),
+        Command::Decrypt => aes::decrypt(order, first, second, tape, output),
         Command::Prepare => aes::prepare(order, first, tape, output),
         Command::EncryptPrepared => aes::encrypt_prepared(order, first, second, tape, output),
         Command::Split => shares::split(order, first, tape, output),

@@ -6,7 +6,7 @@ use crate::routes::Route;
 use crate::runs;
 use crate::tapes;
 
-// What is run of an example: its encryption by a route, or its key expansion.
+// What is run of an example: its key and block by a route, or its key expansion.
 pub enum Of {
     Cipher(Route),
     RoundKeys,

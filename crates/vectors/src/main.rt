@@ -1,5 +1,5 @@
-// Runs the masked AES on values known from elsewhere and compares: document 01's small values that no theorem covers, the published examples
-// of FIPS 197, and on standard input the lines that an unrelated AES made (make-stdin). Prints what was computed, line by line.
+// Runs the masked AES in both directions on values known from elsewhere and compares: document 01's small values that no theorem covers, the
+// published examples of FIPS 197, and on standard input the lines that an unrelated AES made (make-stdin). Prints what was computed, line by line.
 mod answers;
 mod counts;
 mod examples;
@@ -17,7 +17,7 @@ mod values;
 use crate::counts::Tally;
 
 fn main() {
-    let mut tape = io::large_buffer();
+    let mut tape = tapes::buffer();
     let mut input = io::large_buffer();
     let n = io::read_full(0, &mut input);
     let start = Tally {

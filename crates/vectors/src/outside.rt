@@ -1,4 +1,5 @@
-// Lines that an unrelated AES made, from standard input: all are compared, and one line of output for each key length sums them up.
+// Lines that an unrelated AES made, from standard input: all are encrypted and decrypted and compared, and one line of output for each route and
+// key length sums them up.
 use crate::counts;
 use crate::counts::Tally;
 use crate::lines;
@@ -9,8 +10,9 @@ use crate::runs::Run;
 use crate::tapes;
 use text::hexadecimal;
 
-// A line at that order on that tape. The ciphertext goes into sum; a line that cannot be read is left to show_unread.
+// A line at that order on that tape. The output goes into sum; a line that cannot be read is left to show_unread.
 fn compare_at(
+    route: Route,
     line: &[u8],
     size: usize,
     order: usize,
@@ -18,12 +20,12 @@ fn compare_at(
     sum: &mut [u8],
     t: Tally,
 ) -> Tally {
-    let mut cipher = [0u8; 16];
+    let mut output = [0u8; 16];
     tapes::fill(3, tapes::seed(t.compared), tape);
-    match runs::line(Route::Single, line, size, order, tape, &mut cipher) {
+    match runs::line(route, line, size, order, tape, &mut output) {
         Run::Unread => t,
         Run::Done(_, equal) => {
-            rows::xor_into(&cipher, sum);
+            rows::xor_into(&output, sum);
             counts::counted(t, equal)
         }
     }
@@ -31,7 +33,14 @@ fn compare_at(
 
 // The same at the orders 1, 2, 3 and 8 in turn, on the front of the tape that the order takes. A line with a key of another size is passed
 // over, and a tape that is too short counts as a difference.
-fn compare_line(line: &[u8], size: usize, tape: &mut [u8], sum: &mut [u8], t: Tally) -> Tally {
+fn compare_line(
+    route: Route,
+    line: &[u8],
+    size: usize,
+    tape: &mut [u8],
+    sum: &mut [u8],
+    t: Tally,
+) -> Tally {
     if lines::key_size(line) != size {
         return t;
     }
@@ -40,11 +49,17 @@ fn compare_line(line: &[u8], size: usize, tape: &mut [u8], sum: &mut [u8], t: Ta
     if tape.len() < n {
         return counts::counted(t, false);
     }
-    compare_at(line, size, order, &mut tape[0..n], sum, t)
+    compare_at(route, line, size, order, &mut tape[0..n], sum, t)
 }
 
 // All lines with keys of size bytes.
-fn compare_lines(input: &[u8], size: usize, tape: &mut [u8], sum: &mut [u8]) -> Tally {
+fn compare_lines(
+    route: Route,
+    input: &[u8],
+    size: usize,
+    tape: &mut [u8],
+    sum: &mut [u8],
+) -> Tally {
     let mut t = Tally {
         compared: 0,
         different: 0,
@@ -52,20 +67,28 @@ fn compare_lines(input: &[u8], size: usize, tape: &mut [u8], sum: &mut [u8]) -> 
     let mut at = 0;
     while at < input.len() {
         let end = lines::end(input, at);
-        t = compare_line(&input[at..end], size, tape, sum, t);
+        t = compare_line(route, &input[at..end], size, tape, sum, t);
         at = end + 1;
     }
     t
 }
 
+// What a route puts out.
+fn print_outputs(route: Route) {
+    match route {
+        Route::Inverse => text::print(b", XOR of the decrypted blocks "),
+        _ => text::print(b", XOR of the ciphertexts "),
+    }
+}
+
 // The line of output for keys of size bytes.
-fn compare_size(input: &[u8], size: usize, tape: &mut [u8], start: Tally) -> Tally {
+fn compare_size(route: Route, input: &[u8], size: usize, tape: &mut [u8], start: Tally) -> Tally {
     let mut sum = [0u8; 16];
-    let t = compare_lines(input, size, tape, &mut sum);
+    let t = compare_lines(route, input, size, tape, &mut sum);
     text::print_with(b"OpenSSL, key bytes ", size);
     text::print(b": ");
     counts::print_equal(t);
-    text::print(b", XOR of the ciphertexts ");
+    print_outputs(route);
     hexadecimal::print(&sum);
     text::print(b"\n");
     counts::both(start, t)
@@ -94,13 +117,19 @@ fn count_unread(input: &[u8]) -> u64 {
     unread
 }
 
+// All lines by that route.
+fn by(route: Route, input: &[u8], tape: &mut [u8], start: Tally) -> Tally {
+    let short = compare_size(route, input, 16, tape, start);
+    let middle = compare_size(route, input, 24, tape, short);
+    compare_size(route, input, 32, tape, middle)
+}
+
 pub fn compare(input: &[u8], tape: &mut [u8], start: Tally) -> Tally {
-    let short = compare_size(input, 16, tape, start);
-    let middle = compare_size(input, 24, tape, short);
-    let long = compare_size(input, 32, tape, middle);
+    let encrypted = by(Route::Single, input, tape, start);
+    let all = by(Route::Inverse, input, tape, encrypted);
     let unread = count_unread(input);
     text::print(b"OpenSSL, unread lines: ");
     text::print_count(unread);
     text::print(b"\n");
-    long
+    all
 }

@@ -1,4 +1,4 @@
-// The published encryptions of FIPS 197, appendices B and C, by the single call and from prepared keys.
+// The published examples of FIPS 197, appendices B and C: encrypted by the single call and from prepared keys, decrypted, and there and back.
 use crate::counts::Tally;
 use crate::examples;
 use crate::examples::Of;
@@ -58,5 +58,7 @@ fn by(route: Route, tape: &mut [u8], start: Tally) -> Tally {
 
 pub fn compare(tape: &mut [u8], start: Tally) -> Tally {
     let single = by(Route::Single, tape, start);
-    by(Route::Prepared, tape, single)
+    let prepared = by(Route::Prepared, tape, single);
+    let inverse = by(Route::Inverse, tape, prepared);
+    by(Route::RoundTrip, tape, inverse)
 }

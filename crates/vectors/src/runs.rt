@@ -1,4 +1,4 @@
-// One encryption of a plain key and block: both are split, the shares encrypted, and the result joined.
+// One run of a plain key and block: both are split, their shares go by a route, and the result is joined.
 ghost use Prim.Native.Nat.{_≤_};
 use crate::counts;
 use crate::counts::Tally;
@@ -10,7 +10,7 @@ use shares::Answer;
 use shares::Refusal;
 use text::hexadecimal;
 
-// What became of a line: it could not be read; or what came of the route, and whether the joined ciphertext is the line's.
+// What became of a line: it could not be read; or what came of the route, and whether the joined output is the line's.
 pub enum Run {
     Unread,
     Done(Came, bool),
@@ -34,9 +34,9 @@ pub fn in_shares(order: usize, size: usize) -> usize
     (order + 1) * size
 }
 
-// Splitting, encryption by that route and joining, each on the tape that the calls before left, with room for the shares. What came is the
-// encryption's, or the refusal of a splitting or of the joining.
-fn encrypted(
+// Splitting, the route and joining, each on the tape that the calls before left, with room for the shares. What came is the route's, or the
+// refusal of a splitting or of the joining.
+fn pass_with(
     route: Route,
     order: usize,
     key: &[u8],
@@ -44,8 +44,8 @@ fn encrypted(
     tape: &[u8],
     keys: &mut [u8],
     blocks: &mut [u8],
-    ciphers: &mut [u8],
-    cipher: &mut [u8],
+    outputs: &mut [u8],
+    output: &mut [u8],
 ) -> Came {
     let first = shares::split(order, key, tape, keys);
     let Answer::Taken(used) = first else {
@@ -57,8 +57,8 @@ fn encrypted(
         return Came::Once(second);
     };
     let left = shares::unused_tape(rest, more);
-    let came = routes::encrypt(route, order, keys, blocks, left, ciphers);
-    let last = shares::join(order, ciphers, cipher);
+    let came = routes::run(route, order, keys, blocks, left, outputs);
+    let last = shares::join(order, outputs, output);
     let Answer::Taken(_) = last else {
         return Came::Once(last);
     };
@@ -66,17 +66,17 @@ fn encrypted(
 }
 
 // The same, with buffers for at most 9 shares.
-fn encrypt(
+fn pass(
     route: Route,
     order: usize,
     key: &[u8],
     block: &[u8],
     tape: &[u8],
-    cipher: &mut [u8],
+    output: &mut [u8],
 ) -> Came {
     let mut keys = [0u8; 288];
     let mut blocks = [0u8; 144];
-    let mut ciphers = [0u8; 144];
+    let mut outputs = [0u8; 144];
     if 8 < order {
         return Came::Once(Answer::Refused(Refusal::Order));
     }
@@ -85,7 +85,7 @@ fn encrypt(
     }
     let size = in_shares(order, key.len());
     let room = (order + 1) * 16;
-    encrypted(
+    pass_with(
         route,
         order,
         key,
@@ -93,27 +93,44 @@ fn encrypt(
         tape,
         &mut keys[0..size],
         &mut blocks[0..room],
-        &mut ciphers[0..room],
-        cipher,
+        &mut outputs[0..room],
+        output,
     )
 }
 
-// A line run by that route at that order on that tape, with room for what it says.
+// A run whose output is to be the known one.
+fn against(
+    route: Route,
+    order: usize,
+    key: &[u8],
+    block: &[u8],
+    known: &[u8],
+    tape: &[u8],
+    output: &mut [u8],
+) -> Run {
+    let came = pass(route, order, key, block, tape, output);
+    Run::Done(came, text::same(output, known))
+}
+
+// A line run by that route at that order on that tape, with room for what it says: what goes in, and what is to come out.
 fn line_with(
     route: Route,
     line: &[u8],
     order: usize,
     key: &mut [u8],
     block: &mut [u8],
-    known: &mut [u8],
-    tape: &[u8],
     cipher: &mut [u8],
+    tape: &[u8],
+    output: &mut [u8],
 ) -> Run {
-    if !lines::read(line, key, block, known) {
+    if !lines::read(line, key, block, cipher) {
         return Run::Unread;
     }
-    let came = encrypt(route, order, key, block, tape, cipher);
-    Run::Done(came, text::same(cipher, known))
+    match route {
+        Route::Single | Route::Prepared => against(route, order, key, block, cipher, tape, output),
+        Route::Inverse => against(route, order, key, cipher, block, tape, output),
+        Route::RoundTrip => against(route, order, key, block, block, tape, output),
+    }
 }
 
 // The same of a line whose key has size bytes.
@@ -123,11 +140,11 @@ pub fn line(
     size: usize,
     order: usize,
     tape: &[u8],
-    cipher: &mut [u8],
+    output: &mut [u8],
 ) -> Run {
     let mut key = [0u8; 32];
     let mut block = [0u8; 16];
-    let mut known = [0u8; 16];
+    let mut cipher = [0u8; 16];
     if 32 < size {
         return Run::Unread;
     }
@@ -137,21 +154,21 @@ pub fn line(
         order,
         &mut key[0..size],
         &mut block,
-        &mut known,
+        &mut cipher,
         tape,
-        cipher,
+        output,
     )
 }
 
 // What came of a run, as the rest of a line.
-fn show(run: Run, cipher: &[u8], t: Tally) -> Tally {
+fn show(run: Run, output: &[u8], t: Tally) -> Tally {
     match run {
         Run::Unread => {
             text::print(b"unread");
             counts::judged(t, false)
         }
         Run::Done(came, equal) => {
-            hexadecimal::print(cipher);
+            hexadecimal::print(output);
             text::print(b", ");
             routes::print(came);
             counts::judged(t, equal && routes::is_as_single(came))
@@ -168,7 +185,8 @@ pub fn compare(
     tape: &[u8],
     t: Tally,
 ) -> Tally {
-    let mut cipher = [0u8; 16];
-    let done = self::line(route, line, size, order, tape, &mut cipher);
-    show(done, &cipher, t)
+    let mut output = [0u8; 16];
+    routes::print_name(route);
+    let done = self::line(route, line, size, order, tape, &mut output);
+    show(done, &output, t)
 }

@@ -1,12 +1,17 @@
 // Tapes to run on: all zero, all ff, and pseudo-random.
 
-// As many bytes as an encryption and its two splittings take at most, at the orders that are run: 276·(2d² + 4d) + 48·d, for a 32-byte key.
+// Room for the longest tape.
+pub fn buffer() -> [u8; 88704] {
+    [0; 88704]
+}
+
+// As many bytes as a round trip and its two splittings take at most, at the orders that are run: 2·276·(2d² + 4d) + 48·d, for a 32-byte key.
 pub fn length(order: usize) -> usize {
     match order {
-        1 => 1704,
-        2 => 4512,
-        3 => 8424,
-        _ => 44544,
+        1 => 3360,
+        2 => 8928,
+        3 => 16704,
+        _ => 88704,
     }
 }
 

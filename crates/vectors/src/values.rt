@@ -1,25 +1,36 @@
-// Document 01's small values that no theorem covers: which calls are served, and which are refused under what number. Each line shows the
-// numbers of its call, the answer that came, and whether that is the wanted one.
+// Document 01's small values that no theorem covers: which calls are served, and which are refused under what number. Document 02, wish 2, has
+// decryption answer like encryption. Each line shows the numbers of its call, the answer that came, and whether that is the wanted one.
 ghost use Prim.Native.Nat.{_≤_};
 ghost use lib.ListN.{length};
 use crate::answers;
 use crate::answers::Wanted;
 use crate::counts;
 use crate::counts::Tally;
+use crate::routes;
+use crate::routes::Route;
 use shares::Answer;
 use text::hexadecimal;
 
+fn print_direction(route: Route) {
+    match route {
+        Route::Inverse => text::print(b"decrypt"),
+        _ => text::print(b"encrypt"),
+    }
+}
+
 // The numbers of a call, as the start of a line.
-fn print_call(order: usize, key: usize, block: usize, tape: usize) {
-    text::print_with(b"encrypt, order ", order);
+fn print_call(route: Route, order: usize, key: usize, block: usize, tape: usize) {
+    print_direction(route);
+    text::print_with(b", order ", order);
     text::print_with(b", key shares ", key);
     text::print_with(b", input and output ", block);
     text::print_with(b", tape ", tape);
     text::print(b": ");
 }
 
-// An encryption of zeros, in buffers of these lengths.
-fn encryption(
+// A call on zeros, in buffers of these lengths.
+fn call(
+    route: Route,
     zeros: &[u8],
     order: usize,
     key: usize,
@@ -31,30 +42,40 @@ fn encryption(
     requires { ⌜ (key ≤ length (now zeros)) × (block ≤ length (now zeros)) × (tape ≤ length (now zeros)) × (block ≤ 144) ⌝ }
 {
     let mut out = [0u8; 144];
-    print_call(order, key, block, tape);
-    let a = aes::encrypt(
+    print_call(route, order, key, block, tape);
+    let came = routes::run(
+        route,
         order,
         &zeros[0..key],
         &zeros[0..block],
         &zeros[0..tape],
         &mut out[0..block],
     );
-    answers::print(a);
-    counts::judged(t, answers::is_wanted(a, w))
+    routes::print(came);
+    counts::judged(t, routes::is_wanted(came, w))
 }
 
 // Lengths of key shares and tape at the edges of what is served.
-fn encryptions(zeros: &[u8], start: Tally) -> Tally
+fn calls(route: Route, zeros: &[u8], start: Tally) -> Tally
     requires { ⌜ 32000 ≤ length (now zeros) ⌝ }
 {
-    let a = encryption(zeros, 8, 144, 144, 32000, Wanted::Taken(32000), start);
-    let b = encryption(zeros, 9, 144, 144, 32000, Wanted::Refused(1), a);
-    let c = encryption(zeros, 9, 144, 144, 0, Wanted::Refused(1), b);
-    let d = encryption(zeros, 0, 16, 16, 0, Wanted::Refused(1), c);
-    let e = encryption(zeros, usize::MAX, 16, 16, 0, Wanted::Refused(1), d);
-    let f = encryption(zeros, 1, 32, 32, 1200, Wanted::Taken(1200), e);
-    let g = encryption(zeros, 1, 32, 32, 1199, Wanted::Refused(5), f);
-    encryption(zeros, 1, 33, 32, 1200, Wanted::Refused(2), g)
+    let a = call(
+        route,
+        zeros,
+        8,
+        144,
+        144,
+        32000,
+        Wanted::Taken(32000),
+        start,
+    );
+    let b = call(route, zeros, 9, 144, 144, 32000, Wanted::Refused(1), a);
+    let c = call(route, zeros, 9, 144, 144, 0, Wanted::Refused(1), b);
+    let d = call(route, zeros, 0, 16, 16, 0, Wanted::Refused(1), c);
+    let e = call(route, zeros, usize::MAX, 16, 16, 0, Wanted::Refused(1), d);
+    let f = call(route, zeros, 1, 32, 32, 1200, Wanted::Taken(1200), e);
+    let g = call(route, zeros, 1, 32, 32, 1199, Wanted::Refused(5), f);
+    call(route, zeros, 1, 33, 32, 1200, Wanted::Refused(2), g)
 }
 
 fn print_place(place: u16) {
@@ -121,5 +142,7 @@ fn lists(start: Tally) -> Tally {
 
 pub fn compare(start: Tally) -> Tally {
     let zeros = io::large_buffer();
-    lists(places(encryptions(&zeros, start)))
+    let there = calls(Route::Single, &zeros, start);
+    let back = calls(Route::Inverse, &zeros, there);
+    lists(places(back))
 }

@@ -7,10 +7,10 @@ use Rattle.vectors.proofs.outside.compare_lines.Statement.{statement}
 use Rattle.vectors.proofs.outside.compare_lines.Tie as tie
 
 abbrev Inv-loop : tie.InvT-loop
-Inv-loop input size tape₀ sum₀ t₀ at₀ tape sum t at = (length tape ≡ length tape₀) × (length sum ≡ length sum₀)
+Inv-loop route input size tape₀ sum₀ t₀ at₀ tape sum t at = (length tape ≡ length tape₀) × (length sum ≡ length sum₀)
 
 abbrev μ-loop : tie.MeasureT-loop
-μ-loop input size tape₀ sum₀ t₀ at₀ tape sum t at = length input - at
+μ-loop route input size tape₀ sum₀ t₀ at₀ tape sum t at = length input - at
 
 loop-holds : tie.Need-loop-holds Inv-loop μ-loop
 loop-holds c = (refl, refl)
