@@ -80,14 +80,15 @@ abbrev pub key-joined : (d : ℕ) (k : List ℕ) → List ℕ
 key-joined d k = joined-string (parts (d + 1) (4 * key-words d (length k)) k)
 
 -- what is known of a single call that was carried through
-pub record Carried (w : Direction) (d : ℕ) (k x shares : List ℕ) : Type 0 where
+pub record Carried (w : Direction) (d j : ℕ) (k x shares : List ℕ) : Type 0 where
   pub served : unserved d ≡ false
   pub some : 0 < key-words d (length k)
   pub input-long : length x ≡ (d + 1) * 16
+  pub counted : j ≡ cipher-need (key-words d (length k)) d
   pub long : length shares ≡ (d + 1) * 16
   pub joins : joined-string (parts (d + 1) 16 shares) ≡ cipher-of w (key-words d (length k)) (key-joined d k) (joined-string (parts (d + 1) 16 x))
 
-pub single-carried : (w : Direction) (d j : ℕ) (k x ts o shares : List ℕ) → Single-outcome w d k x ts o ≡ done j shares → Carried w d k x shares
+pub single-carried : (w : Direction) (d j : ℕ) (k x ts o shares : List ℕ) → Single-outcome w d k x ts o ≡ done j shares → Carried w d j k x shares
 single-carried w d j k x ts o shares e =
     let nk = key-words d (length k) in
     let g = guarded-inverse d _ _ _ _ _ _ _ j shares (single-is w d k x ts o ∙ e) in
@@ -98,6 +99,7 @@ single-carried w d j k x ts o shares e =
       served = g .0;
       some = some;
       input-long = lx;
+      counted = g .5;
       long = ap length (g .6) ∙ length-laid-of w nk d k x ts some lk lx;
       joins = ap (λ (s : List ℕ). joined-string (parts (d + 1) 16 s)) (g .6) ∙ laid-of-joins w nk d k x ts some lk lx;
     }

@@ -2,19 +2,22 @@
 -- ciphertext joined and split again between. About the outcomes that the contracts name. Document 02, wish 2, decides. Assumes nothing.
 use mathlib.Core.Path.{_≡_, refl, sym, ap, ap₂, _∙_, subst}
 use mathlib.Core.List.{List}
-use Prim.Native.Nat.{ℕ, suc, _+_, _*_, _≤_}
+use Prim.Native.Nat.{ℕ, _+_, _*_, _≤_, _<_}
 use native.Mathlib.Numerals.{add-one}
 use native.Mathlib.Omega.{arith}
+use borrow.Author.Tests.{eq-eqb, lt-ltb}
+use lib.Dec.{ltb, eqb}
 use lib.ListN.{length}
 use Rattle.xor.specs.Lists.{Below}
-use Rattle.gf256.specs.declared.Direction.the-variants.{Forward, Inverse}
+use Rattle.gf256.specs.declared.Direction.the-variants.{Forward}
 use Rattle.shares.specs.Outcome.{done, share-length}
-use Rattle.shares.specs.Strings.{joined-string, parts, split, split-need}
+use Rattle.shares.specs.Strings.{joined-string, parts, split-need}
 use Rattle.shares.specs.Calls.{Split-outcome, Join-outcome}
-use Rattle.shares.proofs.OutcomeLaws.{guarded-inverse}
+use Rattle.shares.proofs.OutcomeLaws.{guarded-inverse, guarded-fits}
 use Rattle.shares.proofs.StringsLaws.{shared-parts, length-joined}
 use Rattle.shares.proofs.RoundTrip.{split-laid-joins}
-use Rattle.cipher.specs.Fips197.{cipher, inv-cipher}
+use Rattle.cipher.specs.Fips197.{inv-cipher}
+use Rattle.cipher.specs.Cipher.{cipher-need, decrypted-laid}
 use Rattle.cipher.proofs.InverseCipherLaws.{inv-cipher-undoes, joined-parts-below}
 use Rattle.aes.specs.Calls.{key-words, Encrypt-outcome, Decrypt-outcome}
 use Rattle.aes.proofs.CallsLaws.{key-length}
@@ -31,7 +34,7 @@ joined-long d l bs h = let h′ = rw add-one at h in rw add-one (length-joined (
 
 module _ (d j : ℕ) (k x ts o c : List ℕ) (key-bytes : Below 256 k) (input-bytes : Below 256 x) (carried : Encrypt-outcome d k x ts o ≡ done j c) where
   -- the call that encrypted
-  went : Carried Forward d k x c
+  went : Carried Forward d j k x c
   went = single-carried Forward d j k x ts o c carried
 
   -- any shares y, at any order, of the ciphertext
@@ -51,7 +54,22 @@ module _ (d j : ℕ) (k x ts o c : List ℕ) (key-bytes : Below 256 k) (input-by
       (joined-long d 16 x (went .input-long))
       (joined-parts-below (d + 1) 16 input-bytes))
 
-  -- at one order
+  -- at one order the decryption is carried through, on as much tape as the encryption took
+  pub decrypt-carried : (k′ ts′ o′ : List ℕ) → Same-key d d k k′ → j ≤ length ts′ → length o′ ≡ (d + 1) * 16
+      → Decrypt-outcome d k′ c ts′ o′ ≡ done j (decrypted-laid (key-words d (length k′)) d k′ c ts′)
+  unfolding Decrypt-outcome
+  decrypt-carried k′ ts′ o′ same h long =
+      let nk = key-words d (length k′) in
+      let made = decrypted-laid nk d k′ c ts′ in
+      let some : 0 < nk = subst (λ (n : ℕ). 0 < n) (sym (same .words)) (went .some) in
+      let need : cipher-need nk d ≡ j = ap (λ (n : ℕ). cipher-need n d) (same .words) ∙ sym (went .counted) in
+      guarded-fits d (ltb 0 nk) (eqb (length c) ((d + 1) * 16)) (eqb (length o′) ((d + 1) * 16)) (length ts′) (cipher-need nk d) o′ made (went .served) (lt-ltb 0 nk some)
+      (eq-eqb (length c) ((d + 1) * 16) (went .long))
+      (eq-eqb (length o′) ((d + 1) * 16) long)
+      (omega arith)
+      ∙ ap (λ (n : ℕ). done n made) need
+
+  -- and what it puts out joins to the block
   pub encrypt-then-decrypt : (i : ℕ) (k′ ts′ o′ p q : List ℕ) → Same-key d d k k′ → Decrypt-outcome d k′ c ts′ o′ ≡ done i p → length q ≡ 16
       → Join-outcome d p q ≡ done 0 (joined-string (parts (d + 1) 16 x))
   encrypt-then-decrypt i k′ ts′ o′ p q same back long = decrypts d i k′ c ts′ o′ p q same refl back long

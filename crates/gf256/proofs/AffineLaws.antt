@@ -18,7 +18,7 @@ use Rattle.xor.proofs.DigitLaws.{two-pos, digit-cases, digit-sum, xor-half, xor
 use Rattle.xor.proofs.XorLaws.{xor-four, xor-sums, and-xor}
 use Rattle.xor.proofs.AdditiveLaws.{additive-zero, additive-after, additive-agree}
 use Rattle.gf256.specs.Field.{parity, rows-from, linear-by, affine-by, rows, affine, inverse-rows, inverse-affine, bit, affine-bit, affine-from, affine-by-bits, inverse-affine-bit}
-use Rattle.gf256.specs.Ways.{rows-of, constant-of, affine-of}
+use Rattle.gf256.specs.Directions.{rows-of, constant-of, affine-of}
 use Rattle.gf256.specs.declared.Direction.{Direction}
 use Rattle.gf256.specs.declared.Direction.the-variants.{Forward, Inverse}
 use Rattle.gf256.proofs.TableTest.{all, all-at, alike}

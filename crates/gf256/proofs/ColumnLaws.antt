@@ -8,7 +8,7 @@ use Rattle.xor.specs.Digit.{if-set}
 use Rattle.xor.proofs.XorLaws.{xor-sums}
 use Rattle.xor.proofs.SumTest.{same-sum, #, _⊕_}
 use Rattle.gf256.specs.Field.{doubled, times-from, times, mixed, inverse-mixed}
-use Rattle.gf256.specs.Ways.{mixed-of}
+use Rattle.gf256.specs.Directions.{mixed-of}
 use Rattle.gf256.specs.declared.Direction.{Direction}
 use Rattle.gf256.specs.declared.Direction.the-variants.{Forward, Inverse}
 use Rattle.gf256.proofs.ProductLaws.{doubled-lt, times-left, times-right, times-zero-l, times-doubled-l, times-assoc, times-lt, times-one-l, times-two, times-three}

@@ -1,3 +1,3 @@
 pub mod Field
-pub mod Ways
+pub mod Directions
 pub mod Document03

@@ -2,7 +2,7 @@
 ghost use mathlib.Core.Path.{_≡_};
 ghost use lib.ListN.{length};
 ghost use Rattle.gf256.specs.Field;
-ghost use Rattle.gf256.specs.Ways.{affine-of, constant-of};
+ghost use Rattle.gf256.specs.Directions.{affine-of, constant-of};
 use crate::Direction;
 
 // One row for each output bit, bit 0 first.

@@ -1,7 +1,7 @@
 // MixColumns and InvMixColumns of one column of four bytes (FIPS 197, 5.1.3 and 5.3.3).
 ghost use mathlib.Core.Path.{_≡_};
 ghost use Rattle.gf256.specs.Field;
-ghost use Rattle.gf256.specs.Ways.{mixed-of};
+ghost use Rattle.gf256.specs.Directions.{mixed-of};
 use crate::Direction;
 
 // A byte of the mixed column: 02 · a + 03 · b + c + d.

@@ -17,7 +17,7 @@ use Rattle.xor.proofs.XorLaws.{xor-sums}
 use Rattle.gf256.specs.declared.Direction.{Direction}
 use Rattle.gf256.specs.declared.Direction.the-variants.{Forward, Inverse}
 use Rattle.gf256.specs.Field.{times, squared, fourth, sixteenth, inverse, linear-by, affine-by, rows, constant, affine, s-box, inverse-rows, inverse-constant, inverse-affine, inverse-s-box}
-use Rattle.gf256.specs.Ways.{constant-of, affine-of, s-box-of}
+use Rattle.gf256.specs.Directions.{constant-of, affine-of, s-box-of}
 use Rattle.gf256.proofs.ProductLaws.{times-left, times-right, squared-xor, fourth-xor, sixteenth-xor}
 use Rattle.gf256.proofs.AffineLaws.{joined-affine-by, once-more, affine-lt}
 use Rattle.isw.specs.Place.{product-need}

@@ -3,7 +3,7 @@ ghost use mathlib.Core.Path.{_≡_};
 ghost use mathlib.Core.List.{map};
 ghost use Prim.Native.Nat.{_+_, _%_, _≤_, _<_};
 ghost use lib.ListN.{length};
-ghost use Rattle.gf256.specs.Ways.{affine-of, constant-of};
+ghost use Rattle.gf256.specs.Directions.{affine-of, constant-of};
 ghost use Rattle.shares.specs.Outcome.{outcome};
 ghost use Rattle.sbox.specs.Box;
 ghost use Rattle.sbox.specs.Calls.{Box-outcome};

@@ -5,7 +5,7 @@ use Prim.Native.Nat.{ℕ, _+_}
 use lib.ListN.{length}
 use Rattle.gf256.specs.declared.Direction.{Direction}
 use Rattle.gf256.specs.declared.Direction.the-variants.{Forward, Inverse}
-use Rattle.gf256.specs.Ways.{mixed-of}
+use Rattle.gf256.specs.Directions.{mixed-of}
 use Rattle.cipher.specs.Fips197.{cell, state, shift-rows, mix-columns, inv-shift-rows, inv-mix-columns}
 use Rattle.cipher.proofs.FipsLaws.{shift-rows-length, mix-columns-length, inv-shift-rows-length, inv-mix-columns-length}
 use Rattle.state.specs.declared.Step.{Step}

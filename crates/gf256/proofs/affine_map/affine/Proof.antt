@@ -2,7 +2,7 @@
 use mathlib.Core.Path.{sym, ap, _∙_}
 use borrow.Author.Needs.{needs}
 use Rattle.gf256.specs.Field.{affine, rows, inverse-affine, inverse-rows}
-use Rattle.gf256.specs.Ways.{affine-of}
+use Rattle.gf256.specs.Directions.{affine-of}
 use Rattle.gf256.specs.declared.Direction.{Direction}
 use Rattle.gf256.proofs.affine_map.affine.Statement.{statement}
 use Rattle.gf256.proofs.affine_map.affine.Tie as tie

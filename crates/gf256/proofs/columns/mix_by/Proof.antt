@@ -1,7 +1,7 @@
 -- `gf256::columns::mix_by` meets its contract. Assumes nothing.
 use mathlib.Core.Path.{sym, ap, _∙_}
 use borrow.Author.Needs.{needs}
-use Rattle.gf256.specs.Ways.{mixed-of}
+use Rattle.gf256.specs.Directions.{mixed-of}
 use Rattle.gf256.specs.declared.Direction.{Direction}
 use Rattle.gf256.proofs.columns.mix_by.Statement.{statement}
 use Rattle.gf256.proofs.columns.mix_by.Tie as tie

@@ -4,7 +4,7 @@ use Prim.Native.Nat.{_≤_, _-_}
 use native.Mathlib.Omega.{arith}
 use borrow.Author.Needs.{needs}
 use lib.ListN.{length, length-set}
-use Rattle.gf256.specs.Ways.{affine-of}
+use Rattle.gf256.specs.Directions.{affine-of}
 use Rattle.sbox.proofs.EachLaws.{each, each-none, each-more, each-all}
 use Rattle.sbox.proofs.boxes.affine_all.Statement.{statement}
 use Rattle.sbox.proofs.boxes.affine_all.Tie as tie

@@ -1,7 +1,7 @@
 -- `sbox::boxes::affine_shares` meets its contract. Assumes nothing.
 use mathlib.Core.Path.{ap, _∙_}
 use Prim.Native.Nat.{_%_}
-use Rattle.gf256.specs.Ways.{constant-of}
+use Rattle.gf256.specs.Directions.{constant-of}
 use Rattle.sbox.specs.Box.{corrected, affine-shares}
 use borrow.Author.Needs.{needs}
 use Rattle.sbox.proofs.boxes.affine_shares.Statement.{statement}

@@ -8,7 +8,7 @@ use denote.Ref.{now}
 use lib.ListN.{length, getD, length-set}
 use Rattle.xor.specs.Lists.{at}
 use Rattle.gf256.specs.declared.Direction.{Direction}
-use Rattle.gf256.specs.Ways.{mixed-of}
+use Rattle.gf256.specs.Directions.{mixed-of}
 use Rattle.shares.proofs.WriteLaws.{over, over-none, over-more, over-all}
 use Rattle.cipher.specs.Fips197.{cell, state}
 use Rattle.state.proofs.StepLaws.{columns-mixed}
