@@ -1,4 +1,5 @@
-// S-boxes of bytes of a string in shares, in place, in the order that document 01 gives; inverse S-boxes in the same order. x and y are scratch of one byte for each share.
+// S-boxes of bytes of a string in shares, in place, in the order that document 01 gives; inverse S-boxes in the same order. x and y are scratch of
+// one byte for each share.
 ghost use mathlib.Core.Path.{_≡_};
 ghost use Prim.Native.Nat.{suc, _*_, _<_, _≤_};
 ghost use lib.ListN.{length};
