@@ -1,5 +1,5 @@
-// Encryption and decryption over shares, by a single call, and encryption from prepared keys. Documents 01 and 02 decide; specs/Calls.antt is the outcome on every input,
-// the crate cipher has the standard and the steps over shares.
+// Encryption and decryption over shares, by a single call, and encryption from prepared keys. Documents 01 and 02 decide; specs/Calls.antt is the
+// outcome on every input, the crate cipher has the standard and the steps over shares.
 //
 // The routines of the documents stand at the root, and ask nothing of a caller. What stands in the modules besides serves the crates above;
 // where it has a `requires`, its callers prove it.

@@ -11,7 +11,8 @@ fn mix(a: u8, b: u8, c: u8, d: u8) -> u8
     crate::product::double(a) ^ (crate::product::double(b) ^ b) ^ c ^ d
 }
 
-// A byte of the column mixed back: 0e · a + 0b · b + 0d · c + 09 · d. With 04 · (a + c) added to a and c, and 04 · (b + d) to b and d, mixing does it.
+// A byte of the column mixed back: 0e · a + 0b · b + 0d · c + 09 · d. With 04 · (a + c) added to a and c, and 04 · (b + d) to b and d, mixing
+// does it.
 fn unmix(a: u8, b: u8, c: u8, d: u8) -> u8
     ensures { λ r. ⌜ r ≡ Field.inverse-mixed a b c d ⌝ }
 {
