@@ -4,7 +4,6 @@ use mathlib.Core.Path.{_≡_, refl, sym, ap, ap₂, _∙_}
 use mathlib.Core.Bool.{Bool, true, false, not, cond}
 use mathlib.Core.List.{List}
 use Prim.Native.Nat.{ℕ, suc, _+_, _*_, _-_, _≤_, _<_}
-use native.Mathlib.Numerals.{add-one}
 use native.Mathlib.Omega.{arith}
 use lib.Dec.{ltb, eqb}
 use lib.ListN.{length, drop, length-drop}
@@ -15,10 +14,10 @@ use Rattle.shares.specs.Outcome.{done, refused, unserved, guarded, share-length
 use Rattle.shares.specs.Strings.{joined-string, parts}
 use Rattle.shares.specs.Calls.{Join-outcome, unused}
 use Rattle.shares.proofs.OutcomeLaws.{guarded-inverse, guarded-fits}
-use Rattle.shares.proofs.StringsLaws.{laid-length, shared-parts}
+use Rattle.shares.proofs.StringsLaws.{shares-of, laid-long}
 use Rattle.cipher.specs.Fips197.{rounds, key-expansion, cipher-with, cipher, inv-cipher}
 use Rattle.cipher.specs.Cipher.{schedule-need, prepared-laid, encrypted-with-need, encrypted-with-laid, cipher-need, encrypted-laid, decrypted-laid}
-use Rattle.cipher.proofs.Accuracy.{schedule-shared, encrypted-with-shared, decrypted-shared, prepared-joins-laid, encrypted-with-joins-laid, cipher-joins-laid, inv-cipher-joins-laid, encrypted-from-prepared}
+use Rattle.cipher.proofs.Accuracy.{schedule-shared, encrypted-with-shared, encrypted-shared, decrypted-shared, prepared-joins-laid, encrypted-with-joins-laid, cipher-joins-laid, inv-cipher-joins-laid, encrypted-from-prepared}
 use Rattle.aes.specs.Calls.{key-words, prepared-length, prepared-words, Encrypt-outcome, Decrypt-outcome, Prepare-outcome, Encrypt-prepared-outcome, after}
 use Rattle.aes.specs.Directions.{laid-of, cipher-of, Single-outcome}
 use Rattle.aes.proofs.CallsLaws.{key-sized, key-length, prepared-long, prepared-words-of, single-is}
@@ -27,23 +26,13 @@ use Rattle.aes.proofs.CallsLaws.{key-sized, key-length, prepared-long, 
 
 length-prepared : (nk d : ℕ) (k ts : List ℕ) → 1 ≤ nk → length k ≡ (d + 1) * (4 * nk) → length (prepared-laid nk d k ts) ≡ prepared-length nk d
 unfolding prepared-laid prepared-length
-length-prepared nk d k ts h lk =
-    let lk′ = rw add-one at lk in
-    rw add-one (laid-length (schedule-shared nk ts h (shared-parts d (4 * nk) k (omega arith))))
+length-prepared nk d k ts h lk = laid-long (schedule-shared nk ts h (shares-of d (4 * nk) k lk))
 
 length-encrypted-with : (nk d : ℕ) (ks x ts : List ℕ) → length ks ≡ (d + 1) * (16 * suc (rounds nk)) → length x ≡ (d + 1) * 16
     → length (encrypted-with-laid nk d ks x ts) ≡ (d + 1) * 16
 unfolding encrypted-with-laid
 length-encrypted-with nk d ks x ts lk lx =
-    let lk′ = rw add-one at lk in
-    let lx′ = rw add-one at lx in
-    rw add-one (laid-length (encrypted-with-shared nk ts (omega arith) (shared-parts d (16 * suc (rounds nk)) ks (omega arith)) (shared-parts d 16 x (omega arith))))
-
-length-encrypted : (nk d : ℕ) (k x ts : List ℕ) → 1 ≤ nk → length k ≡ (d + 1) * (4 * nk) → length x ≡ (d + 1) * 16
-    → length (encrypted-laid nk d k x ts) ≡ (d + 1) * 16
-unfolding prepared-length
-length-encrypted nk d k x ts h lk lx =
-    ap length (sym (encrypted-from-prepared nk d k x ts h lk)) ∙ length-encrypted-with nk d (prepared-laid nk d k ts) x (drop (schedule-need nk d) ts) (length-prepared nk d k ts h lk) lx
+    laid-long (encrypted-with-shared nk ts (omega arith) (shares-of d (16 * suc (rounds nk)) ks lk) (shares-of d 16 x lx))
 
 pub sixteen : (n : ℕ) → share-length n (n * 16) ≡ 16
 unfolding share-length
@@ -63,12 +52,9 @@ join-block d shares p u long h =
 -- how long a block is that either call makes, and what it joins to
 length-laid-of : (w : Direction) (nk d : ℕ) (k x ts : List ℕ) → 1 ≤ nk → length k ≡ (d + 1) * (4 * nk) → length x ≡ (d + 1) * 16
     → length (laid-of w nk d k x ts) ≡ (d + 1) * 16
-unfolding decrypted-laid
-length-laid-of Forward nk d k x ts h lk lx = length-encrypted nk d k x ts h lk lx
-length-laid-of Inverse nk d k x ts h lk lx =
-    let lk′ = rw add-one at lk in
-    let lx′ = rw add-one at lx in
-    rw add-one (laid-length (decrypted-shared nk ts h (shared-parts d (4 * nk) k (omega arith)) (shared-parts d 16 x (omega arith))))
+unfolding encrypted-laid decrypted-laid
+length-laid-of Forward nk d k x ts h lk lx = laid-long (encrypted-shared nk ts h (shares-of d (4 * nk) k lk) (shares-of d 16 x lx))
+length-laid-of Inverse nk d k x ts h lk lx = laid-long (decrypted-shared nk ts h (shares-of d (4 * nk) k lk) (shares-of d 16 x lx))
 
 laid-of-joins : (w : Direction) (nk d : ℕ) (k x ts : List ℕ) → 1 ≤ nk → length k ≡ (d + 1) * (4 * nk) → length x ≡ (d + 1) * 16
     → joined-string (parts (d + 1) 16 (laid-of w nk d k x ts)) ≡ cipher-of w nk (joined-string (parts (d + 1) (4 * nk) k)) (joined-string (parts (d + 1) 16 x))

@@ -3,7 +3,6 @@
 use mathlib.Core.Path.{_≡_, refl, sym, ap, ap₂, _∙_, subst}
 use mathlib.Core.List.{List}
 use Prim.Native.Nat.{ℕ, _+_, _*_, _≤_, _<_}
-use native.Mathlib.Numerals.{add-one}
 use native.Mathlib.Omega.{arith}
 use borrow.Author.Tests.{eq-eqb, lt-ltb}
 use lib.Dec.{ltb, eqb}
@@ -14,7 +13,7 @@ use Rattle.shares.specs.Outcome.{done, share-length}
 use Rattle.shares.specs.Strings.{joined-string, parts, split-need}
 use Rattle.shares.specs.Calls.{Split-outcome, Join-outcome}
 use Rattle.shares.proofs.OutcomeLaws.{guarded-inverse, guarded-fits}
-use Rattle.shares.proofs.StringsLaws.{shared-parts, length-joined}
+use Rattle.shares.proofs.StringsLaws.{shares-of, length-joined}
 use Rattle.shares.proofs.RoundTrip.{split-laid-joins}
 use Rattle.cipher.specs.Fips197.{inv-cipher}
 use Rattle.cipher.specs.Cipher.{cipher-need, decrypted-laid}
@@ -30,7 +29,7 @@ pub record Same-key (d e : ℕ) (k k′ : List ℕ) : Type 0 where
 
 -- d + 1 shares of l bytes join to l bytes
 joined-long : (d l : ℕ) (bs : List ℕ) → length bs ≡ (d + 1) * l → length (joined-string (parts (d + 1) l bs)) ≡ l
-joined-long d l bs h = let h′ = rw add-one at h in rw add-one (length-joined (shared-parts d l bs (omega arith)))
+joined-long d l bs h = length-joined (shares-of d l bs h)
 
 module _ (d j : ℕ) (k x ts o c : List ℕ) (key-bytes : Below 256 k) (input-bytes : Below 256 x) (carried : Encrypt-outcome d k x ts o ≡ done j c) where
   -- the call that encrypted

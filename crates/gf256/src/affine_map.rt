@@ -36,8 +36,9 @@ pub fn constant(which: Direction) -> u8
 pub fn affine(which: Direction, a: u8) -> u8
     ensures { λ r. ⌜ r ≡ affine-of which a ⌝ }
 {
+    let c = constant(which);
     match which {
-        Direction::Forward => by_rows(&ROWS, 0x63, a),
-        Direction::Inverse => by_rows(&INVERSE_ROWS, 0x05, a),
+        Direction::Forward => by_rows(&ROWS, c, a),
+        Direction::Inverse => by_rows(&INVERSE_ROWS, c, a),
     }
 }

@@ -4,7 +4,6 @@ use mathlib.Core.Bool.{true}
 use mathlib.Core.List.{List}
 use Prim.Native.Nat.{ℕ, _+_, _*_, _≤_, _<_}
 use native.Mathlib.Nat.{one-mul}
-use native.Mathlib.Numerals.{add-one}
 use native.Mathlib.Omega.{arith}
 use lib.Dec.{ltb, eqb}
 use lib.ListN.{length}
@@ -13,13 +12,12 @@ use Rattle.shares.specs.Outcome.{done, guarded, share-length}
 use Rattle.shares.specs.Strings.{joined-string, laid, parts, split, split-need}
 use Rattle.shares.specs.Calls.{Split-outcome, Join-outcome}
 use Rattle.shares.proofs.OutcomeLaws.{guarded-inverse, guarded-fits, share-length-is, share-length-laid}
-use Rattle.shares.proofs.StringsLaws.{parts-laid, shared-split, split-joins, laid-length}
+use Rattle.shares.proofs.StringsLaws.{laid-back, laid-long, shared-split, split-joins}
 
 -- laid out, cut again and joined
 pub split-laid-joins : (d : ℕ) (xs ts : List ℕ) → split-need d (length xs) ≤ length ts → joined-string (parts (d + 1) (length xs) (laid (split d xs ts))) ≡ xs
 split-laid-joins d xs ts h =
-    ap (λ (n : ℕ). joined-string (parts n (length xs) (laid (split d xs ts)))) (add-one d)
-    ∙ ap joined-string (parts-laid (shared-split d xs ts h)) ∙ split-joins d xs ts
+    ap joined-string (laid-back (shared-split d xs ts h)) ∙ split-joins d xs ts
 
 -- whatever `split` puts out, `join` at the same order makes the string of it again
 pub split-then-join : (d k : ℕ) (xs ts o shares p : List ℕ) → Split-outcome d xs ts o ≡ done k shares → length p ≡ length xs
@@ -32,7 +30,7 @@ split-then-join d k xs ts o shares p e h =
     let whole : length xs ≡ l = share-length-is 1 (length xs) pos ∙ one-mul l in
     let enough : split-need d (length xs) ≤ length ts = subst (λ (m : ℕ). split-need d m ≤ length ts) (sym whole) (g .4) in
     let long : length shares ≡ (d + 1) * l =
-    ap length (g .6) ∙ laid-length (shared-split d xs ts enough) ∙ ap₂ (λ (n m : ℕ). n * m) (sym (add-one d)) whole in
+    ap length (g .6) ∙ laid-long (shared-split d xs ts enough) ∙ ap (λ (m : ℕ). (d + 1) * m) whole in
     let again : share-length (d + 1) (length shares) ≡ l = ap (share-length (d + 1)) long ∙ share-length-laid (d + 1) 1 (length xs) (omega arith) pos in
     let back : joined-string (parts (d + 1) l shares) ≡ xs =
     ap₂ (λ (m : ℕ) (s : List ℕ). joined-string (parts (d + 1) m s)) (sym whole) (g .6) ∙ split-laid-joins d xs ts enough in
