@@ -6,13 +6,11 @@ fn double(a: u8) -> u8 {
     (a << 1) ^ (0x1b & 0u8.wrapping_sub(a >> 7))
 }
 
-/// The product by shift and add, lowest bit first.
+/// The product by shift and add, bit 7 of the second factor first.
 fn times(a: u8, b: u8) -> u8 {
-    let (mut p, mut x, mut y) = (0, a, b);
-    for _ in 0..8 {
-        p ^= x & 0u8.wrapping_sub(y & 1);
-        x = double(x);
-        y >>= 1;
+    let mut p = 0;
+    for k in (0..8).rev() {
+        p = double(p) ^ (a & 0u8.wrapping_sub((b >> k) & 1));
     }
     p
 }

@@ -1,6 +1,7 @@
 pub mod TableTest
 pub mod DigitMasks
 pub mod ProductLaws
+pub mod FromTopLaws
 pub mod InverseLaws
 pub mod AffineLaws
 pub mod SBoxLaws

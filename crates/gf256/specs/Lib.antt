@@ -1,3 +1,4 @@
 pub mod Field
+pub mod FromTop
 pub mod Directions
 pub mod Document03

@@ -19,17 +19,17 @@ pub fn double(a: u8) -> u8
     (a << 1) ^ if_set(a >> 7, 0x1b)
 }
 
-// Shift and add: for each set bit of b, lowest first, a doubled as often as that bit's place.
+// Shift and add, from bit 7 of b down to bit 0 (Horner's rule): each bit doubles what stands, and adds a if it is set. After bit k stands a times
+// b >> k.
 pub fn times(a: u8, b: u8) -> u8
     ensures { λ r. ⌜ r ≡ Field.times a b ⌝ }
 {
     let mut p: u8 = 0;
-    let mut x = a;
-    let mut y = b;
-    for i in 0u8..8 {
-        p = p ^ if_set(y & 1, x);
-        x = double(x);
-        y = y >> 1;
+    let mut k: u8 = 8;
+    while 0 < k {
+        k -= 1;
+        let added = if_set((b >> k) & 1, a);
+        p = double(p) ^ added;
     }
     p
 }
