@@ -19,6 +19,7 @@
  * STATUS. Every routine but dokkumel_unused_tape() answers with a status:
  *
  *   0   the call was carried through; output is written, and *taken is set
+ *       (of a preview: it would be; only *taken is set)
  *   1   order is 0 or above 8
  *   2   key share length isn't n * 16, n * 24 or n * 32 (prepared keys:
  *       n * 176, n * 208 or n * 240)
@@ -337,6 +338,36 @@ uint32_t dokkumel_encrypt_prepared(size_t order,
 	const uint8_t *input, size_t input_len,
 	const uint8_t *tape, size_t tape_len,
 	uint8_t *output, size_t output_len,
+	size_t *taken);
+
+/*
+ * Previews: the answer that a call would give, from the order and the lengths
+ * of its buffers alone, before any of them is there. Status and *taken come
+ * out as dokkumel_encrypt(), dokkumel_decrypt(), dokkumel_prepare() or
+ * dokkumel_encrypt_prepared() would leave them on buffers of these lengths,
+ * whatever bytes those hold: 0, with the tape bytes that the call would take,
+ * or its refusal, and *taken stays as it was. Nothing is read but the
+ * numbers, and nothing is written but *taken.
+ *
+ * Any lengths may be asked about. With SIZE_MAX for tape_len, *taken tells how
+ * much tape must be drawn for a call whose other lengths fit.
+ *
+ * Refusals: 1, 2, 3, 4, 5; of dokkumel_preview_prepare() 1, 2, 4, 5.
+ */
+uint32_t dokkumel_preview_encrypt(size_t order,
+	size_t key_len, size_t input_len, size_t tape_len, size_t output_len,
+	size_t *taken);
+
+uint32_t dokkumel_preview_decrypt(size_t order,
+	size_t key_len, size_t input_len, size_t tape_len, size_t output_len,
+	size_t *taken);
+
+uint32_t dokkumel_preview_prepare(size_t order,
+	size_t key_len, size_t tape_len, size_t output_len,
+	size_t *taken);
+
+uint32_t dokkumel_preview_encrypt_prepared(size_t order,
+	size_t prepared_len, size_t input_len, size_t tape_len, size_t output_len,
 	size_t *taken);
 
 /*

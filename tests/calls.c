@@ -1,6 +1,7 @@
 #include "calls.h"
 
 #include "dokkumel.h"
+#include "foretold.h"
 #include "guarded.h"
 #include "joined.h"
 #include "plan.h"
@@ -90,6 +91,7 @@ static void compare(const struct plan *c, struct guarded *g)
 {
 	uint8_t *lent[BUFFERS], *second[BUFFERS];
 	uint32_t status, wanted;
+	const char *differs;
 
 	for (int b = 0; b < BUFFERS; b++) {
 		lent[b] = g[b].lent;
@@ -106,6 +108,12 @@ static void compare(const struct plan *c, struct guarded *g)
 		if (status != 0 || b < OUTPUT)
 			same(c, b, &g[b], g[b].lent, g[b].before, "before the call");
 		same(c, b, &g[b], g[b].lent, g[b].second, "the second's");
+	}
+	differs = foretold_differs(c, g, status);
+	if (differs != NULL) {
+		fail_at(c);
+		puts(differs);
+		exit(1);
 	}
 	if (status == 0 && plan_key_bytes(c) != 0)
 		compare_joined(c, g);

@@ -26,6 +26,9 @@ void known_trips(uint64_t seed);
 /* The refusals of all calls that take a key, in their order and at every length. */
 void known_refusals(void);
 
+/* Previews of jobs whose lengths no buffer could have. */
+void known_previews(void);
+
 /* The header's macros: just so much is served, and a byte more or less refused. */
 void known_macros(void);
 

@@ -39,7 +39,9 @@ int main(int argc, char **argv)
 	known_small();
 	puts("document 01's small values and edges: as told");
 	known_refusals();
-	puts("refusals of the calls that take a key: in their order, and at every length");
+	puts("refusals of the calls that take a key: in their order, at every length, and as foretold");
+	known_previews();
+	puts("previews: right on lengths that no buffer has, up to the largest");
 	known_macros();
 	puts("the header's macros: exact");
 	calls_try_guards();

@@ -1,4 +1,4 @@
-/* The refusals of the calls that take a key: their order, and every length up to some past the longest. */
+/* The refusals of the calls that take a key: their order, and every length up to some past the longest. Each call is asked about beforehand. */
 #include "known.h"
 
 #include "block_call.h"
@@ -20,11 +20,12 @@ static const size_t key_sboxes[3] = { 40, 32, 52 }, round_sboxes[3] = { 160, 192
 static const struct block {
 	const char *name;
 	block_call *call;
+	block_preview *preview;
 	const size_t *key, *sboxes;
 } blocks[] = {
-	{ "encrypt", dokkumel_encrypt, raw, all_sboxes },
-	{ "decrypt", dokkumel_decrypt, raw, all_sboxes },
-	{ "encrypt_prepared", dokkumel_encrypt_prepared, round_keys, round_sboxes },
+	{ "encrypt", dokkumel_encrypt, dokkumel_preview_encrypt, raw, all_sboxes },
+	{ "decrypt", dokkumel_decrypt, dokkumel_preview_decrypt, raw, all_sboxes },
+	{ "encrypt_prepared", dokkumel_encrypt_prepared, dokkumel_preview_encrypt_prepared, round_keys, round_sboxes },
 };
 
 static void is(int good, const char *call, const char *what, size_t d, size_t bytes)
@@ -50,16 +51,35 @@ static int refused(uint32_t status, uint32_t number)
 	return status == number && taken == 12345;
 }
 
+/* The call's status; the preview must have given the same, and left the same behind taken. */
+static uint32_t as_foretold(uint32_t status, uint32_t foretold, size_t count, const char *call, size_t d, size_t key_len)
+{
+	is(status == foretold && taken == count, call, "its preview", d, key_len);
+	return status;
+}
+
 static uint32_t prepare(size_t d, size_t key_len, size_t output_len, size_t tape_len)
 {
+	uint32_t foretold, status;
+	size_t count;
+
 	before();
-	return dokkumel_prepare(d, zeros, key_len, zeros, tape_len, out, output_len, &taken);
+	count = taken;
+	foretold = dokkumel_preview_prepare(d, key_len, tape_len, output_len, &count);
+	status = dokkumel_prepare(d, zeros, key_len, zeros, tape_len, out, output_len, &taken);
+	return as_foretold(status, foretold, count, "prepare", d, key_len);
 }
 
 static uint32_t block(const struct block *b, size_t d, size_t key_len, size_t input_len, size_t output_len, size_t tape_len)
 {
+	uint32_t foretold, status;
+	size_t count;
+
 	before();
-	return b->call(d, zeros, key_len, zeros, input_len, zeros, tape_len, out, output_len, &taken);
+	count = taken;
+	foretold = b->preview(d, key_len, input_len, tape_len, output_len, &count);
+	status = b->call(d, zeros, key_len, zeros, input_len, zeros, tape_len, out, output_len, &taken);
+	return as_foretold(status, foretold, count, b->name, d, key_len);
 }
 
 /* All causes at once, and then one less in each line. */

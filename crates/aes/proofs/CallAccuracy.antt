@@ -13,7 +13,7 @@ use Rattle.gf256.specs.declared.Direction.the-variants.{Forward, Inverse}
 use Rattle.shares.specs.Outcome.{done, refused, unserved, guarded, share-length}
 use Rattle.shares.specs.Strings.{joined-string, parts}
 use Rattle.shares.specs.Calls.{Join-outcome, unused}
-use Rattle.shares.proofs.OutcomeLaws.{guarded-inverse, guarded-fits}
+use Rattle.shares.proofs.OutcomeLaws.{guarded-inverse, guarded-fits, share-length-16}
 use Rattle.shares.proofs.StringsLaws.{shares-of, laid-long}
 use Rattle.cipher.specs.Fips197.{rounds, key-expansion, cipher-with, cipher, inv-cipher}
 use Rattle.cipher.specs.Cipher.{schedule-need, prepared-laid, encrypted-with-need, encrypted-with-laid, cipher-need, encrypted-laid, decrypted-laid}
@@ -34,16 +34,12 @@ unfolding encrypted-with-laid
 length-encrypted-with nk d ks x ts lk lx =
     laid-long (encrypted-with-shared nk ts (omega arith) (shares-of d (16 * suc (rounds nk)) ks lk) (shares-of d 16 x lx))
 
-pub sixteen : (n : ℕ) → share-length n (n * 16) ≡ 16
-unfolding share-length
-sixteen n = simp (eq-eqb (n * 16) (n * 16) refl)
-
 -- shares of a block are joined
 join-block : (d : ℕ) (shares p : List ℕ) → unserved d ≡ false → length shares ≡ (d + 1) * 16 → length p ≡ 16
     → Join-outcome d shares p ≡ done 0 (joined-string (parts (d + 1) 16 shares))
 unfolding Join-outcome
 join-block d shares p u long h =
-    let l : share-length (d + 1) (length shares) ≡ 16 = ap (share-length (d + 1)) long ∙ sixteen (d + 1) in
+    let l : share-length (d + 1) (length shares) ≡ 16 = ap (share-length (d + 1)) long ∙ share-length-16 (d + 1) in
     ap (λ (m : ℕ). guarded d true (ltb 0 m) (eqb (length p) m) 0 0 p (joined-string (parts (d + 1) m shares))) l
     ∙ guarded-fits d true true (eqb (length p) 16) 0 0 p (joined-string (parts (d + 1) 16 shares)) u refl refl (eq-eqb (length p) 16 h) (omega arith)
 

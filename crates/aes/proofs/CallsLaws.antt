@@ -1,23 +1,21 @@
--- What the tests of a call say: the size of the key, how much tape is wanted, which outcome it is; and what the cores make. Assumes nothing.
-use mathlib.Core.Path.{_≡_, refl, sym, ap, ap₂, _∙_, subst}
+-- What the lengths of a call say: the size of the key, and how much tape is wanted; and what the cores make. Assumes nothing.
+use mathlib.Core.Path.{_≡_, refl, sym, ap, ap₂, _∙_}
 use mathlib.Core.Bool.{Bool, true, false, cond}
 use mathlib.Core.List.{List}
-use Prim.Native.Nat.{ℕ, zero, suc, _+_, _*_, _-_, _/_, _≤_, _<_}
+use Prim.Native.Nat.{ℕ, suc, _+_, _*_, _-_, _/_, _≤_, _<_}
 use native.Mathlib.Nat.{mul-le-mul}
 use native.Mathlib.Numerals.{add-one}
 use native.Mathlib.Omega.{arith}
-use borrow.Author.Tests.{eqb-true, eq-eqb, ne-eqb, lt-ltb, ltb-true}
+use borrow.Author.Tests.{eqb-true, eq-eqb, ne-eqb}
 use lib.Dec.{ltb, eqb}
 use lib.ListN.{length, take, drop}
-use Rattle.shares.specs.declared.Answer.{Answer}
-use Rattle.shares.specs.declared.Answer.the-variants.{Taken}
-use Rattle.shares.specs.Outcome.{refused, unserved, guarded, check, share-length}
+use Rattle.shares.specs.Outcome.{guarded, share-length}
 use Rattle.gf256.specs.declared.Direction.{Direction}
 use Rattle.gf256.specs.declared.Direction.the-variants.{Forward, Inverse}
 use Rattle.shares.specs.Strings.{Shares, parts, laid}
 use Rattle.shares.proofs.StringsLaws.{shared-parts, parts-laid}
 use Rattle.shares.proofs.WriteLaws.{part-rest}
-use Rattle.shares.proofs.OutcomeLaws.{served-bounds, check-taken, answered-taken, share-length-cases, share-length-is}
+use Rattle.shares.proofs.OutcomeLaws.{share-length-16, share-length-24, share-length-32, share-length-cases, share-length-is}
 use Rattle.sbox.specs.Box.{box-need}
 use Rattle.sbox.proofs.BoxLaws.{box-need-is}
 use Rattle.cipher.specs.Fips197.{rounds}
@@ -25,17 +23,8 @@ use Rattle.cipher.specs.Cipher.{schedule, schedule-need, prepared-laid, encrypt
 use Rattle.cipher.proofs.Accuracy.{schedule-shared}
 use Rattle.cipher.proofs.NeedLaws.{schedule-need-4, schedule-need-6, schedule-need-8, encrypted-with-need-is}
 use Rattle.aes.specs.Fits.{Key-size, four, six, eight}
-use Rattle.aes.specs.declared.Route.{Route}
-use Rattle.aes.specs.declared.Route.the-variants.{Single, Prepared}
-use Rattle.aes.specs.Calls.{key-words, prepared-length, prepared-words, boxes-of, words-by, need-by, Block-answer, Encrypt-outcome, Decrypt-outcome}
+use Rattle.aes.specs.Calls.{key-words, prepared-length, prepared-words, boxes-of, Encrypt-outcome, Decrypt-outcome}
 use Rattle.aes.specs.Directions.{with-of, laid-of, Single-outcome}
-
--- ---- refusal 2
-
-pub guarded-key : (d : ℕ) (key input room : Bool) (tape need : ℕ) (o made : List ℕ)
-    → unserved d ≡ false → key ≡ false → refused 2 o ≡ guarded d key input room tape need o made
-unfolding guarded
-guarded-key d key input room tape need o made u e = simp (u, e)
 
 -- ---- the size of the key
 
@@ -53,6 +42,13 @@ module _ (d l : ℕ) (some : 0 < key-words d l) where
   key-length =
       let e : 4 * (share-length (d + 1) l / 4) ≡ share-length (d + 1) l = share-length-cases (λ s. 4 * (s / 4) ≡ s) refl refl refl (d + 1) l key-share in
       share-length-is (d + 1) l key-share ∙ ap (λ (m : ℕ). (d + 1) * m) (sym e)
+
+-- key shares have the size of their key
+pub key-words-of : {nk : ℕ} (d : ℕ) → Key-size nk → key-words d ((d + 1) * (4 * nk)) ≡ nk
+unfolding key-words
+key-words-of d four = ap (λ (l : ℕ). l / 4) (share-length-16 (d + 1))
+key-words-of d six = ap (λ (l : ℕ). l / 4) (share-length-24 (d + 1) (omega arith))
+key-words-of d eight = ap (λ (l : ℕ). l / 4) (share-length-32 (d + 1) (omega arith))
 
 -- the same from prepared keys
 module _ (d l : ℕ) where
@@ -145,38 +141,7 @@ rounds-need-bound {nk} d size h =
     let n : 16 * (nk + 6) ≤ 224 = omega arith in
     mul-le-mul n (box-need-bound d h)
 
--- ---- the code's own tests: nk words were found, and they are not 0
-
-module _ (nk found : ℕ) (words : nk ≡ found) (some : nk ≡ 0 → ⊥) where
-  some-words : 0 < found
-  some-words = rw words at (positive nk some)
-    where
-      positive : (n : ℕ) → (n ≡ 0 → ⊥) → 0 < n
-      positive zero h = absurd (h refl)
-      positive (suc n) h = omega arith
-
-  -- what holds of the words by definition holds of those found
-  pub keyed : (P : ℕ → Type 0) → (0 < found → P found) → P nk
-  keyed P f = subst P (sym words) (f some-words)
-
-  -- the answer to a length and a need that were worked out for nk is the one for the words by definition
-  module _ (input : Bool) (room : ℕ → Bool) (tape : ℕ) (need : ℕ → ℕ) (answer : Answer) (r : Bool) (n : ℕ) (roomy : r ≡ room nk) (needed : n ≡ need nk) (checked : answer ≡ check true input r tape n) where
-    pub keyed-check : answer ≡ check (ltb 0 found) input (room found) tape (need found)
-    keyed-check =
-        checked ∙ ap₂ (λ (b : Bool) (m : ℕ). check true input b tape m) (roomy ∙ ap room words) (needed ∙ ap need words)
-        ∙ ap (λ (k : Bool). check k input (room found) tape (need found)) (sym (lt-ltb 0 found some-words))
-
-    -- what is known where it lets a call through
-    pub record Ready (taken : ℕ) : Type 0 where
-      pub input-fits : input ≡ true
-      pub output-fits : room nk ≡ true
-      pub drawn : need nk ≤ tape
-      pub answered : taken ≡ need nk
-
-    pub keyed-ready : (q : ℕ) → answer ≡ Taken q → Ready q
-    keyed-ready q e =
-        let h = check-taken true input r tape n q (sym checked ∙ e) in
-        record { input-fits = h .1; output-fits = sym roomy ∙ h .2; drawn = rw needed at (h .3); answered = h .4 ∙ needed }
+-- ---- lengths, as the cores count them
 
 pub block-long : (d l : ℕ) → eqb l ((d + 1) * 16) ≡ true → l ≡ suc d * 16
 block-long d l e = eqb-true l ((d + 1) * 16) e ∙ ap (λ (n : ℕ). n * 16) (add-one d)
@@ -187,33 +152,6 @@ key-long nk d l e = e ∙ ap (λ (n : ℕ). n * (4 * nk)) (add-one d)
 pub keys-long : (nk d l : ℕ) → l ≡ prepared-length nk d → l ≡ suc d * (16 * suc (rounds nk))
 unfolding prepared-length
 keys-long nk d l e = e ∙ ap (λ (n : ℕ). n * (16 * suc (rounds nk))) (add-one d)
-
--- ---- a block, by either route
-
-pub words-sized : (route : Route) (d l : ℕ) → 0 < words-by route d l → Key-size (words-by route d l)
-words-sized Single = key-sized
-words-sized Prepared = prepared-sized
-
--- what is known of a call that is let through
-pub record Through (route : Route) (d k x t o taken : ℕ) : Type 0 where
-  pub order : d ≤ 8
-  pub some : 0 < words-by route d k
-  pub input-long : x ≡ suc d * 16
-  pub output-long : o ≡ suc d * 16
-  pub drawn : need-by route (words-by route d k) d ≤ t
-  pub counted : taken ≡ need-by route (words-by route d k) d
-
-pub let-through : (route : Route) (d k x t o q : ℕ) (a : Answer) → a ≡ Block-answer route d k x t o → a ≡ Taken q → Through route d k x t o q
-let-through route d k x t o q a e f =
-    let g = answered-taken d (ltb 0 (words-by route d k)) (eqb x ((d + 1) * 16)) (eqb o ((d + 1) * 16)) t (need-by route (words-by route d k) d) q (sym e ∙ f) in
-    record {
-      order = served-bounds d (g .0) .1;
-      some = ltb-true 0 (words-by route d k) (g .1);
-      input-long = block-long d x (g .2);
-      output-long = block-long d o (g .3);
-      drawn = g .4;
-      counted = g .5;
-    }
 
 -- ---- what the cores make, as the outcomes name it
 

@@ -12,7 +12,7 @@ use Rattle.gf256.specs.declared.Direction.the-variants.{Forward}
 use Rattle.shares.specs.Outcome.{done, share-length}
 use Rattle.shares.specs.Strings.{joined-string, parts, split-need}
 use Rattle.shares.specs.Calls.{Split-outcome, Join-outcome}
-use Rattle.shares.proofs.OutcomeLaws.{guarded-inverse, guarded-fits}
+use Rattle.shares.proofs.OutcomeLaws.{guarded-inverse, guarded-fits, share-length-16}
 use Rattle.shares.proofs.StringsLaws.{shares-of, length-joined}
 use Rattle.shares.proofs.RoundTrip.{split-laid-joins}
 use Rattle.cipher.specs.Fips197.{inv-cipher}
@@ -20,7 +20,7 @@ use Rattle.cipher.specs.Cipher.{cipher-need, decrypted-laid}
 use Rattle.cipher.proofs.InverseCipherLaws.{inv-cipher-undoes, joined-parts-below}
 use Rattle.aes.specs.Calls.{key-words, Encrypt-outcome, Decrypt-outcome}
 use Rattle.aes.proofs.CallsLaws.{key-length}
-use Rattle.aes.proofs.CallAccuracy.{key-joined, Carried, single-carried, decrypt-then-join, sixteen}
+use Rattle.aes.proofs.CallAccuracy.{key-joined, Carried, single-carried, decrypt-then-join}
 
 -- key shares at orders d and e of the same key: as many words, and they join to the same bytes
 pub record Same-key (d e : ℕ) (k k′ : List ℕ) : Type 0 where
@@ -78,7 +78,7 @@ module _ (d j : ℕ) (k x ts o c : List ℕ) (key-bytes : Below 256 k) (input-by
   unfolding Join-outcome
   joined-block n b block e =
       let g = guarded-inverse d _ _ _ _ _ _ _ n block e in
-      g .6 ∙ ap (λ (l : ℕ). joined-string (parts (d + 1) l c)) (ap (share-length (d + 1)) (went .long) ∙ sixteen (d + 1))
+      g .6 ∙ ap (λ (l : ℕ). joined-string (parts (d + 1) l c)) (ap (share-length (d + 1)) (went .long) ∙ share-length-16 (d + 1))
 
   -- at two orders, with the ciphertext joined and split again between
   pub encrypt-join-split-decrypt : (e n m i : ℕ) (b block rs o″ y k′ ts′ o′ p q : List ℕ) → Join-outcome d c b ≡ done n block
@@ -89,7 +89,7 @@ module _ (d j : ℕ) (k x ts o c : List ℕ) (key-bytes : Below 256 k) (input-by
       let whole = joined-block n b block joins in
       let sized : length block ≡ 16 = ap length whole ∙ joined-long d 16 c (went .long) in
       let g = guarded-inverse e _ _ _ _ _ _ _ m y splits in
-      let one : share-length 1 (length block) ≡ length block = ap (share-length 1) sized ∙ sixteen 1 ∙ sym sized in
+      let one : share-length 1 (length block) ≡ length block = ap (share-length 1) sized ∙ share-length-16 1 ∙ sym sized in
       let enough : split-need e (length block) ≤ length rs = subst (λ (l : ℕ). split-need e l ≤ length rs) one (g .4) in
       let again : joined-string (parts (e + 1) 16 y) ≡ block =
       ap₂ (λ (l : ℕ) (s : List ℕ). joined-string (parts (e + 1) l s)) (sym sized) (g .6) ∙ split-laid-joins e block rs enough in

@@ -5,12 +5,9 @@ use mathlib.Core.List.{List}
 use Prim.Native.Nat.{ℕ, suc, _+_, _*_, _/_}
 use lib.Dec.{ltb, eqb}
 use lib.ListN.{length}
-use Rattle.shares.specs.declared.Answer.{Answer}
-use Rattle.shares.specs.Outcome.{Outcome, done, refused, guarded, answered, share-length}
+use Rattle.shares.specs.Outcome.{Outcome, done, refused, guarded, share-length}
 use Rattle.cipher.specs.Fips197.{rounds}
 use Rattle.cipher.specs.Cipher.{schedule-need, prepared-laid, encrypted-with-need, encrypted-with-laid, cipher-need, encrypted-laid, decrypted-laid}
-use Rattle.aes.specs.declared.Route.{Route}
-use Rattle.aes.specs.declared.Route.the-variants.{Single, Prepared}
 
 -- ---- lengths
 
@@ -63,20 +60,3 @@ Encrypt-prepared-outcome d ks x ts o =
 abbrev pub after : (n : ℕ) → Outcome → Outcome
 after n (done k q) = done (n + k) q
 after n (refused r q) = refused r q
-
--- ---- the tests of a call for one block, by its route: from key shares in a single call, or from prepared keys
-
--- how many words the key has
-abbrev pub words-by : Route → (d length : ℕ) → ℕ
-words-by Single d l = key-words d l
-words-by Prepared d l = prepared-words d l
-
--- how much tape it takes
-abbrev pub need-by : Route → (nk d : ℕ) → ℕ
-need-by Single nk d = cipher-need nk d
-need-by Prepared nk d = encrypted-with-need nk d
-
--- the answer, from the order and the lengths
-abbrev pub Block-answer : Route → (order key input tape output : ℕ) → Answer
-Block-answer route d k x t o =
-    answered d (ltb 0 (words-by route d k)) (eqb x ((d + 1) * 16)) (eqb o ((d + 1) * 16)) t (need-by route (words-by route d k) d)

@@ -1,3 +1,4 @@
 pub mod Fits
 pub mod Calls
+pub mod Previews
 pub mod Directions

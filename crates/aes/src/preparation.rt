@@ -2,34 +2,27 @@
 ghost use mathlib.Core.Path.{_≡_};
 ghost use Rattle.shares.specs.Outcome.{outcome};
 ghost use Rattle.aes.specs.Calls.{Prepare-outcome, Encrypt-prepared-outcome};
-use crate::Route;
-use crate::needs;
+use crate::Job;
 use crate::sizes;
 use gf256::Direction;
 use shares::Answer;
-use shares::Refusal;
 
 // The masked key expansion, once: round keys 0 to Nr of share 0, then those of share 1, and so on.
 pub fn prepare(order: usize, key: &[u8], tape: &[u8], output: &mut [u8]) -> Answer
     ensures { λ r. ⌜ outcome r (now (output .exit)) ≡ Prepare-outcome order (now (key .entry)) (now (tape .entry)) (now (output .entry)) ⌝ }
 {
-    if shares::answers::unserved(order) {
-        return Answer::Refused(Refusal::Order);
-    }
-    let nk = sizes::key_words(order, key.len());
-    if nk == 0 {
-        return Answer::Refused(Refusal::Key);
-    }
-    let answer = shares::answers::checked(
-        true,
-        true,
-        output.len() == sizes::prepared_length(nk, order),
+    let answer = crate::answers::answer(
+        Job::Preparation,
+        order,
+        key.len(),
+        0,
         tape.len(),
-        needs::schedule_need(nk, order),
+        output.len(),
     );
     let Answer::Taken(_) = answer else {
         return answer;
     };
+    let nk = sizes::key_words(order, key.len());
     Answer::Taken(schedule::expansion::expand_core(nk, order, key, tape, output))
 }
 
@@ -43,8 +36,8 @@ pub fn encrypt_prepared(
 ) -> Answer
     ensures { λ r. ⌜ outcome r (now (output .exit)) ≡ Encrypt-prepared-outcome order (now (prepared .entry)) (now (input .entry)) (now (tape .entry)) (now (output .entry)) ⌝ }
 {
-    let answer = crate::blocks::answer(
-        Route::Prepared,
+    let answer = crate::answers::answer(
+        Job::Prepared,
         order,
         prepared.len(),
         input.len(),

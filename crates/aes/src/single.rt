@@ -7,7 +7,7 @@ ghost use Rattle.cipher.specs.Fips197.{rounds};
 ghost use Rattle.cipher.specs.Cipher as Cipher;
 ghost use Rattle.aes.specs.Calls.{Encrypt-outcome, Decrypt-outcome};
 ghost use Rattle.aes.specs.Directions.{laid-of, Single-outcome};
-use crate::Route;
+use crate::Job;
 use crate::sizes;
 use gf256::Direction;
 use shares::Answer;
@@ -59,8 +59,8 @@ fn call(
 ) -> Answer
     ensures { λ r. ⌜ outcome r (now (output .exit)) ≡ Single-outcome which order (now (key .entry)) (now (input .entry)) (now (tape .entry)) (now (output .entry)) ⌝ }
 {
-    let answer = crate::blocks::answer(
-        Route::Single,
+    let answer = crate::answers::answer(
+        Job::Single,
         order,
         key.len(),
         input.len(),

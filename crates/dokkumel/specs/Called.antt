@@ -8,7 +8,7 @@ use Rattle.masking.specs.Calls.{Product-outcome}
 use Rattle.sbox.specs.Calls.{Box-outcome}
 use Rattle.aes.specs.Calls.{Encrypt-outcome, Decrypt-outcome, Prepare-outcome, Encrypt-prepared-outcome}
 use Rattle.dokkumel.specs.declared.commands.Command.{Command}
-use Rattle.dokkumel.specs.declared.commands.Command.the-variants.{Encrypt, Decrypt, Prepare, EncryptPrepared, Split, Join, Refresh, Product, Sbox, Read, Sheet, Places, Tape, Help, Unknown}
+use Rattle.dokkumel.specs.declared.commands.Command.the-variants.{Encrypt, Decrypt, Prepare, EncryptPrepared, Split, Join, Refresh, Product, Sbox, Read, Sheet, Places, Tape, Preview, Help, Unknown}
 
 -- a command that calls no routine of this form never gets there; it stands as a refused order
 abbrev pub called : Command → (order : ℕ) (first second tape output : List ℕ) → Outcome
@@ -25,5 +25,6 @@ called Read d x y t o = refused 1 o
 called Sheet d x y t o = refused 1 o
 called Places d x y t o = refused 1 o
 called Tape d x y t o = refused 1 o
+called Preview d x y t o = refused 1 o
 called Help d x y t o = refused 1 o
 called Unknown d x y t o = refused 1 o

@@ -53,3 +53,19 @@ pub fn print_on_prepared(a: Answer, output: &[u8]) {
         _ => print(a, output),
     }
 }
+
+// What a call would answer. It has no output yet.
+pub fn print_foretold(a: Answer) {
+    match a {
+        Answer::Taken(n) => print_taken(n),
+        Answer::Refused(r) => print_refused(r),
+    }
+}
+
+// The same of a call on prepared keys.
+pub fn print_foretold_on_prepared(a: Answer) {
+    match a {
+        Answer::Refused(r) => print_refused_on_prepared(r),
+        _ => print_foretold(a),
+    }
+}

@@ -15,6 +15,7 @@ pub enum Command {
     Sheet,
     Places,
     Tape,
+    Preview,
     Help,
     Unknown,
 }
@@ -32,6 +33,9 @@ fn other_named(word: &[u8]) -> Command {
     }
     if text::same(word, b"tape") {
         return Command::Tape;
+    }
+    if text::same(word, b"preview") {
+        return Command::Preview;
     }
     if text::same(word, b"help") {
         return Command::Help;
@@ -81,26 +85,31 @@ fn length(c: Command) -> usize {
         | Command::Read => 6,
         Command::Prepare | Command::Split | Command::Refresh | Command::Sbox => 5,
         Command::Join | Command::Tape => 4,
-        Command::Places => 3,
+        Command::Places | Command::Preview => 3,
         Command::Help | Command::Unknown => 2,
     }
 }
 
-// Whether a line of that many words has the command's arguments; if not, a line says so.
-pub fn is_whole(c: Command, count: usize) -> bool {
-    let wanted = length(c);
+// Whether a line has as many words as it must; if not, a line says so.
+pub fn has_words(count: usize, wanted: usize) -> bool {
     if count < wanted {
         faults::print(b"", b"missing argument, see dokkumel help");
         return false;
     }
-    if count == wanted {
-        return true;
+    if wanted < count {
+        faults::print(b"", b"surplus argument, see dokkumel help");
+        return false;
     }
+    true
+}
+
+// Whether a line of that many words has the command's arguments; if not, a line says so. How many follow, `read` and `preview` find out for
+// themselves.
+pub fn is_whole(c: Command, count: usize) -> bool {
+    let wanted = length(c);
     match c {
-        Command::Read | Command::Unknown => true,
-        _ => {
-            faults::print(b"", b"surplus argument, see dokkumel help");
-            false
-        }
+        Command::Read | Command::Preview | Command::Unknown => count >= wanted
+            || has_words(count, wanted),
+        _ => has_words(count, wanted),
     }
 }

@@ -16,9 +16,11 @@ dokkumel sheet ORDER LEFT RIGHT TAPE                        every byte of a prod
 dokkumel read ORDER LEFT RIGHT TAPE PLACE...                the bytes at listed places of a product
 dokkumel places ORDER                                       the places of a product: number, name
 dokkumel tape ORDER KEYBYTES                                which tape bytes go into which step of an encryption or a decryption
+dokkumel preview ROUTE ORDER LENGTH...                      what that call would answer on buffers of these lengths
 dokkumel help                                               this text
-ORDER, KEYBYTES and PLACE are decimal. The others are bytes in hexadecimal, share after share; '' is no byte.
+ORDER, KEYBYTES, PLACE and LENGTH are decimal. The others are bytes in hexadecimal, share after share; '' is no byte.
 TAPE may be -, for raw bytes from standard input. A call prints its output and the tape bytes taken, or its refusal.
+ROUTE is encrypt, decrypt, prepare or encrypt-prepared. Its LENGTHs are KEYLEN or PREPAREDLEN, INPUTLEN (not for prepare), TAPELEN and OUTPUTLEN, in bytes.
 ",
     );
 }

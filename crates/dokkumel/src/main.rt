@@ -12,6 +12,7 @@ mod faults;
 mod help;
 mod layout;
 mod places;
+mod previews;
 mod reading;
 mod routines;
 mod sheets;
@@ -22,6 +23,7 @@ fn run(c: Command) {
     match c {
         Command::Places => places::run(),
         Command::Tape => layout::run(),
+        Command::Preview => previews::run(),
         Command::Help => help::print(),
         Command::Unknown => faults::print(b"", b"unknown command, see dokkumel help"),
         _ => calls::run(c),

@@ -1,1 +1,2 @@
 pub mod ReturnedLaws
+pub mod PreviewLaws

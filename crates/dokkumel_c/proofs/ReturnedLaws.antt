@@ -1,19 +1,41 @@
 -- Laws of what C gets back. Assumes nothing.
 use mathlib.Core.Path.{_≡_, refl, ap, sym, _∙_}
 use mathlib.Core.Bool.{Bool, true, false, cond}
-use mathlib.Core.List.{List}
+use mathlib.Core.List.{List, []}
 use Prim.Native.Nat.{ℕ, _-_, _≤_, _<_}
 use native.Mathlib.Omega.{arith}
 use lib.Dec.{ltb}
 use lib.ListN.{length, drop, length-drop, drop-of-length-le}
 use borrow.Author.Tests.{ltb-true, ltb-false}
+use Rattle.shares.specs.declared.Answer.{Answer}
+use Rattle.shares.specs.declared.Answer.the-variants.{Taken, Refused}
 use Rattle.shares.specs.Outcome.{Outcome}
 use Rattle.shares.specs.Calls.{unused}
-use Rattle.dokkumel_c.specs.Returned.{Returned, returned, unused-start}
+use Rattle.shares.proofs.OutcomeLaws.{ended, Ends}
+use Rattle.dokkumel_c.specs.Returned.{Returned, gives, returned, foretold, unused-start}
 
 -- what a wrapper gives is its routine's outcome
 pub handed-on : (t : ℕ) {a b : Outcome} {x : Returned} → a ≡ b → x ≡ returned a t → x ≡ returned b t
 handed-on t e g = g ∙ ap (λ (o : Outcome). returned o t) e
+
+-- ---- previews
+
+-- what a preview's wrapper gives is the preview's answer
+pub foretold-on : (t : ℕ) {a b : Answer} {x : Returned} → a ≡ b → x ≡ foretold a t → x ≡ foretold b t
+foretold-on t e g = g ∙ ap (λ (y : Answer). foretold y t) e
+
+-- a call that ends with a preview's answer returns the preview's status and count, from the same value behind `taken`
+ended-as-foretold : (p : Answer) (o made : List ℕ) (t : ℕ)
+    → (returned (ended p o made) t .status ≡ foretold p t .status) × (returned (ended p o made) t .taken ≡ foretold p t .taken)
+ended-as-foretold (Taken k) o made t = (refl, refl)
+ended-as-foretold (Refused r) o made t = (refl, refl)
+
+pub preview-returns : {p : Answer} {c : Outcome} {o q : List ℕ} (t : ℕ) {s k s′ k′ : ℕ} → Ends c p o
+    → gives s k q ≡ returned c t → gives s′ k′ [] ≡ foretold p t → (s ≡ s′) × (k ≡ k′)
+preview-returns {p} {c} {o} t e f g =
+    let h = ended-as-foretold p o (e .made) t in
+    let same = f ∙ ap (λ (x : Outcome). returned x t) (e .ends) in
+    (ap (λ (x : Returned). x .status) same ∙ h .0 ∙ sym (ap (λ (x : Returned). x .status) g), ap (λ (x : Returned). x .taken) same ∙ h .1 ∙ sym (ap (λ (x : Returned). x .taken) g))
 
 -- ---- unused tape
 

@@ -7,7 +7,7 @@ use native.Mathlib.Omega.{arith}
 use lib.Dec.{ltb, eqb}
 use borrow.Author.Tests.{eqb-true, eqb-false, ltb-false, le-ltb, eq-eqb, ne-eqb}
 use Rattle.shares.specs.declared.Refusal.{Refusal}
-use Rattle.shares.specs.declared.Refusal.the-variants.{Order, Key, Input, Output, Tape}
+use Rattle.shares.specs.declared.Refusal.the-variants.{Order, Key, Input, Output, Tape, List as Listed, Place}
 use Rattle.shares.specs.declared.Answer.{Answer}
 use Rattle.shares.specs.declared.Answer.the-variants.{Taken, Refused}
 use Rattle.shares.specs.Outcome.{Outcome, done, refused, number, outcome, unserved, guarded, check, answered, share-length}
@@ -35,9 +35,39 @@ served-bounds d e = go (eqb d 0) refl (ltb 8 d) refl e
 -- ---- refusals 1 to 5
 
 -- an answer, with the output as it was or as it is made
-abbrev ends : Answer → (output made : List ℕ) → Outcome
-ends (Taken k) o made = done k made
-ends (Refused r) o made = refused (number r) o
+abbrev pub ended : Answer → (output made : List ℕ) → Outcome
+ended (Taken k) o made = done k made
+ended (Refused r) o made = refused (number r) o
+
+-- the refusal that a number stands for
+abbrev refusal : ℕ → Refusal
+refusal n = cond (eqb n 1) Order (cond (eqb n 2) Key (cond (eqb n 3) Input (cond (eqb n 4) Output (cond (eqb n 5) Tape (cond (eqb n 6) Listed Place)))))
+
+-- no two refusals have one number
+refusal-number : (r : Refusal) → refusal (number r) ≡ r
+refusal-number Order = refl
+refusal-number Key = refl
+refusal-number Input = refl
+refusal-number Output = refl
+refusal-number Tape = refl
+refusal-number Listed = refl
+refusal-number Place = refl
+
+same-answer : (a b : Answer) (q o made : List ℕ) → outcome a q ≡ ended b o made → a ≡ b
+same-answer (Taken k) (Taken j) q o made e = let z : k ≡ j = cc in ap Taken z
+same-answer (Taken k) (Refused r) q o made e = absurd (not-done (number r) o k q (sym e))
+same-answer (Refused r) (Taken k) q o made e = absurd (not-done (number r) q k made e)
+same-answer (Refused r) (Refused s) q o made e =
+    let z : number r ≡ number s = cc in ap Refused (sym (refusal-number r) ∙ ap refusal z ∙ refusal-number s)
+
+-- a call ends with an answer: with something made, or with the output as it was
+pub record Ends (call : Outcome) (answer : Answer) (output : List ℕ) : Type 0 where
+  pub made : List ℕ
+  pub ends : call ≡ ended answer output made
+
+-- an outcome tells the answer
+pub outcome-answer : (a : Answer) (q : List ℕ) {b : Answer} {c : Outcome} {o : List ℕ} → outcome a q ≡ c → Ends c b o → a ≡ b
+outcome-answer a q {b} {c} {o} e f = same-answer a b q o (f .made) (e ∙ f .ends)
 
 module _ (d : ℕ) (key input room : Bool) (tape need : ℕ) where
   pub answered-unserved : unserved d ≡ true → Refused Order ≡ answered d key input room tape need
@@ -53,14 +83,20 @@ module _ (d : ℕ) (key input room : Bool) (tape need : ℕ) where
   unfolding answered check
   answered-keyless u y = simp (u, y)
 
+  -- where all else fits, the tape decides
+  pub answered-fits : unserved d ≡ false → key ≡ true → input ≡ true → room ≡ true
+      → answered d key input room tape need ≡ cond (ltb tape need) (Refused Tape) (Taken need)
+  unfolding answered check
+  answered-fits u y i r = simp (u, y, i, r)
+
   module _ (o made : List ℕ) where
-    guarded-answered : guarded d key input room tape need o made ≡ ends (answered d key input room tape need) o made
+    guarded-ended : guarded d key input room tape need o made ≡ ended (answered d key input room tape need) o made
     unfolding guarded answered check
-    guarded-answered = go (unserved d) key input room (ltb tape need)
+    guarded-ended = go (unserved d) key input room (ltb tape need)
       where
         go : (u k i r t : Bool)
             → cond u (refused 1 o) (cond (not k) (refused 2 o) (cond (not i) (refused 3 o) (cond (not r) (refused 4 o) (cond t (refused 5 o) (done need made)))))
-            ≡ ends (cond u (Refused Order) (cond (not k) (Refused Key) (cond (not i) (Refused Input) (cond (not r) (Refused Output) (cond t (Refused Tape) (Taken need)))))) o made
+            ≡ ended (cond u (Refused Order) (cond (not k) (Refused Key) (cond (not i) (Refused Input) (cond (not r) (Refused Output) (cond t (Refused Tape) (Taken need)))))) o made
         go true k i r t = refl
         go false false i r t = refl
         go false true false r t = refl
@@ -68,14 +104,18 @@ module _ (d : ℕ) (key input room : Bool) (tape need : ℕ) where
         go false true true true true = refl
         go false true true true false = refl
 
+    -- a call ends with the answer of its tests
+    pub guarded-ends : Ends (guarded d key input room tape need o made) (answered d key input room tape need) o
+    guarded-ends = record { made = made; ends = guarded-ended }
+
     module _ (a : Answer) (e : a ≡ answered d key input room tape need) where
       -- a refusal is the call's
       pub answered-refused : (r : Refusal) → a ≡ Refused r → outcome a o ≡ guarded d key input room tape need o made
-      answered-refused r f = ap (λ (x : Answer). outcome x o) f ∙ ap (λ (x : Answer). ends x o made) (sym f ∙ e) ∙ sym guarded-answered
+      answered-refused r f = ap (λ (x : Answer). outcome x o) f ∙ ap (λ (x : Answer). ended x o made) (sym f ∙ e) ∙ sym guarded-ended
 
       -- a call that is let through is done
       pub answered-done : (k j : ℕ) (q : List ℕ) → a ≡ Taken k → j ≡ k → q ≡ made → done j q ≡ guarded d key input room tape need o made
-      answered-done k j q f p s = ap₂ done p s ∙ ap (λ (x : Answer). ends x o made) (sym f ∙ e) ∙ sym guarded-answered
+      answered-done k j q f p s = ap₂ done p s ∙ ap (λ (x : Answer). ended x o made) (sym f ∙ e) ∙ sym guarded-ended
 
 module _ (d : ℕ) (key input room : Bool) (tape need : ℕ) (o made : List ℕ) where
   pub guarded-unserved : unserved d ≡ true → refused 1 o ≡ guarded d key input room tape need o made
@@ -118,17 +158,17 @@ answered-taken d key input room tape need k = go (unserved d)
 
 -- ---- lengths of strings
 
-first : (n : ℕ) → share-length n (n * 16) ≡ 16
+pub share-length-16 : (n : ℕ) → share-length n (n * 16) ≡ 16
 unfolding share-length
-first n = simp (eq-eqb (n * 16) (n * 16) refl)
+share-length-16 n = simp (eq-eqb (n * 16) (n * 16) refl)
 
-second : (n : ℕ) → 0 < n → share-length n (n * 24) ≡ 24
+pub share-length-24 : (n : ℕ) → 0 < n → share-length n (n * 24) ≡ 24
 unfolding share-length
-second n h = let a : n * 24 ≡ n * 16 → ⊥ = λ e. omega arith in simp (ne-eqb (n * 24) (n * 16) a, eq-eqb (n * 24) (n * 24) refl)
+share-length-24 n h = let a : n * 24 ≡ n * 16 → ⊥ = λ e. omega arith in simp (ne-eqb (n * 24) (n * 16) a, eq-eqb (n * 24) (n * 24) refl)
 
-third : (n : ℕ) → 0 < n → share-length n (n * 32) ≡ 32
+pub share-length-32 : (n : ℕ) → 0 < n → share-length n (n * 32) ≡ 32
 unfolding share-length
-third n h =
+share-length-32 n h =
     let a : n * 32 ≡ n * 16 → ⊥ = λ e. omega arith in
     let b : n * 32 ≡ n * 24 → ⊥ = λ e. omega arith in
     simp (ne-eqb (n * 32) (n * 16) a, ne-eqb (n * 32) (n * 24) b, eq-eqb (n * 32) (n * 32) refl)
@@ -164,7 +204,7 @@ share-length-le n l = go (share-length n l) refl
 
 -- n shares of such a length have it
 pub share-length-laid : (n k l : ℕ) → 0 < n → 0 < share-length k l → share-length n (n * share-length k l) ≡ share-length k l
-share-length-laid n k l h = share-length-cases (λ s. share-length n (n * s) ≡ s) (first n) (second n h) (third n h) k l
+share-length-laid n k l h = share-length-cases (λ s. share-length n (n * s) ≡ s) (share-length-16 n) (share-length-24 n h) (share-length-32 n h) k l
 
 -- what is known of a call that is done
 pub guarded-inverse : (d : ℕ) (key input room : Bool) (tape need : ℕ) (o made : List ℕ) (k : ℕ) (q : List ℕ)

@@ -6,9 +6,10 @@ use denote.Ref.{now}
 use lib.ListN.{length}
 use Rattle.shares.proofs.OutcomeLaws.{answered-refused, answered-done}
 use Rattle.cipher.specs.Cipher.{encrypted-with-need, encrypted-with-laid}
-use Rattle.aes.specs.declared.Route.the-variants.{Prepared}
+use Rattle.aes.specs.declared.Job.the-variants.{Prepared}
 use Rattle.aes.specs.Calls.{Encrypt-prepared-outcome}
-use Rattle.aes.proofs.CallsLaws.{prepared-long, keys-long, let-through, encrypted-with-made}
+use Rattle.aes.proofs.CallsLaws.{prepared-long, block-long, keys-long, encrypted-with-made}
+use Rattle.aes.proofs.PreviewsLaws.{let-through}
 use Rattle.aes.proofs.preparation.encrypt_prepared.Statement.{statement}
 use Rattle.aes.proofs.preparation.encrypt_prepared.Tie as tie
 
@@ -35,7 +36,7 @@ rounds-core-requires c κs =
     let a = c .before .before .before .before .before .before .before .before .before .args in
     let t = let-through Prepared (a .order) (length (now (a .prepared))) (length (now (a .input))) (length (now (a .tape))) (length (now (a .output))) _ _ (c .before .before .before .before .answer .ensures) (c .before .before .enum-told .given .1) in
     let w = c .before .prepared-words .ensures in
-    (t .order, w .1, rw (w .0) (keys-long _ (a .order) _ (prepared-long (a .order) (length (now (a .prepared))) (t .some))), t .input-long, t .output-long, rw (w .0) (t .drawn))
+    (t .order, w .1, rw (w .0) (keys-long _ (a .order) _ (prepared-long (a .order) (length (now (a .prepared))) (t .some))), block-long (a .order) _ (t .input), block-long (a .order) _ (t .output), rw (w .0) (t .drawn))
 
 same-length : tie.Need-same-length
 same-length c = search needs

@@ -1,48 +1,21 @@
 -- `aes::preparation::prepare` meets its contract. Assumes nothing.
-use mathlib.Core.Path.{_≡_, ap, sym, _∙_}
-use Prim.Native.Nat.{ℕ, _+_, _*_, _≤_}
-use native.Mathlib.Omega.{arith}
-use borrow.Author.Tests.{le-ltb, eqb-true}
+use mathlib.Core.Path.{ap, sym, _∙_}
+use Prim.Native.Nat.{ℕ}
 use borrow.Author.Needs.{needs}
+use borrow.Author.Tests.{eqb-true}
 use denote.Ref.{now}
-use lib.Dec.{eqb}
 use lib.ListN.{length}
-use Rattle.shares.proofs.OutcomeLaws.{served-bounds, guarded-unserved, guarded-refused, guarded-done}
+use Rattle.shares.proofs.OutcomeLaws.{answered-refused, answered-done}
 use Rattle.cipher.specs.Cipher.{schedule-need, prepared-laid}
-use Rattle.aes.specs.Fits.{Key-size}
-use Rattle.aes.specs.Calls.{key-words, prepared-length, Prepare-outcome}
-use Rattle.aes.proofs.CallsLaws.{guarded-key, key-sized, key-length, size-bounds, keyed, keyed-check, keyed-ready, key-long, keys-long, prepared-made}
+use Rattle.aes.specs.declared.Job.the-variants.{Preparation}
+use Rattle.aes.specs.Calls.{Prepare-outcome}
+use Rattle.aes.proofs.CallsLaws.{key-length, key-long, keys-long, prepared-made}
+use Rattle.aes.proofs.PreviewsLaws.{let-through}
 use Rattle.aes.proofs.preparation.prepare.Statement.{statement}
 use Rattle.aes.proofs.preparation.prepare.Tie as tie
 
-unserved-requires : tie.Need-unserved-requires
-unserved-requires c κs = search needs
-
-returns : tie.Need-returns
-unfolding Prepare-outcome
-returns c = guarded-unserved _ _ _ _ _ _ _ _ (sym (c .before .unserved .ensures) ∙ c .if1 .taken)
-
-key-words-requires : tie.Need-key-words-requires
-key-words-requires c κs = served-bounds _ (sym (c .before .unserved .ensures) ∙ c .if1 .left) .1
-
-returns-2 : tie.Need-returns-2
-unfolding Prepare-outcome
-returns-2 c =
-    let a = c .before .before .before .before .before .before .before .args in
-    let none : key-words (a .order) (length (now (a .key))) ≤ 0 = omega (arith, sym (c .before .key-words .ensures .0) ∙ c .if2 .taken) in
-    guarded-key _ _ _ _ _ _ _ _ (sym (c .before .before .before .unserved .ensures) ∙ c .before .before .if1 .left) (le-ltb 0 (key-words (a .order) (length (now (a .key)))) none)
-
-prepared-length-requires : tie.Need-prepared-length-requires
-prepared-length-requires c κs = let b = served-bounds _ (sym (c .before .before .before .unserved .ensures) ∙ c .before .before .if1 .left) in (b .1, c .before .key-words .ensures .1)
-
-schedule-need-requires : tie.Need-schedule-need-requires
-schedule-need-requires c κs =
-    let a = c .before .before .before .before .before .before .before .before .args in
-    let b = served-bounds (a .order) (sym (c .before .before .before .before .unserved .ensures) ∙ c .before .before .before .if1 .left) in
-    (b .1, keyed _ _ (c .before .before .key-words .ensures .0) (c .before .if2 .left) Key-size (key-sized (a .order) (length (now (a .key)))))
-
-checked-requires : tie.Need-checked-requires
-checked-requires c κs = search needs
+answer-requires : tie.Need-answer-requires
+answer-requires c κs = search needs
 
 enum-told : tie.Need-enum-told
 enum-told c = search needs
@@ -50,53 +23,43 @@ enum-told c = search needs
 enum-told-2 : tie.Need-enum-told-2
 enum-told-2 c = search needs
 
-returns-3 : tie.Need-returns-3
+returns : tie.Need-returns
 unfolding Prepare-outcome
-returns-3 c =
-    let a = c .before .before .before .before .before .before .before .before .before .before .before .before .args in
-    let e = keyed-check _ _ (c .before .before .before .before .before .before .key-words .ensures .0) (c .before .before .before .before .before .if2 .left) _ (λ m. eqb (length (now (a .output))) (prepared-length m (a .order))) _ (λ m. schedule-need m (a .order)) _ _ _ (ap (eqb (length (now (a .output)))) (c .before .before .before .before .prepared-length .ensures .0)) (c .before .before .before .schedule-need .ensures .0) (c .before .before .checked .ensures) in
-    guarded-refused _ _ _ _ _ _ _ _ (sym (c .before .before .before .before .before .before .before .before .unserved .ensures) ∙ c .before .before .before .before .before .before .before .if1 .left) _ e _ (c .enum-told2 .given .1)
+returns c = answered-refused _ _ _ _ _ _ _ _ _ (c .before .before .answer .ensures) _ (c .enum-told2 .given .1)
+
+key-words-requires : tie.Need-key-words-requires
+key-words-requires c κs =
+    let a = c .before .before .before .before .before .before .args in
+    let-through Preparation (a .order) (length (now (a .key))) 0 (length (now (a .tape))) (length (now (a .output))) _ _ (c .before .before .answer .ensures) (c .enum-told .given .1) .order
 
 expand-core-requires : tie.Need-expand-core-requires
 expand-core-requires c κs =
-    let a = c .before .before .before .before .before .before .before .before .before .before .before .before .before .args in
-    let b = served-bounds (a .order) (sym (c .before .before .before .before .before .before .before .before .before .unserved .ensures) ∙ c .before .before .before .before .before .before .before .before .if1 .left) in
-    let w = c .before .before .before .before .before .before .before .key-words .ensures .0 in
-    let some = c .before .before .before .before .before .before .if2 .left in
-    let r = keyed-ready _ _ w some _ (λ m. eqb (length (now (a .output))) (prepared-length m (a .order))) _ (λ m. schedule-need m (a .order)) _ _ _ (ap (eqb (length (now (a .output)))) (c .before .before .before .before .before .prepared-length .ensures .0)) (c .before .before .before .before .schedule-need .ensures .0) (c .before .before .before .checked .ensures) _ (c .before .enum-told .given .1) in
-    let n = size-bounds (keyed _ _ w some Key-size (key-sized (a .order) (length (now (a .key))))) in
-    let k = keyed _ _ w some (λ m. length (now (a .key)) ≡ (a .order + 1) * (4 * m)) (key-length (a .order) (length (now (a .key)))) in
-    (b .1, n .0, n .1, key-long _ (a .order) _ k, keys-long _ (a .order) _ (eqb-true _ _ (r .output-fits)), r .drawn)
+    let a = c .before .before .before .before .before .before .before .before .args in
+    let t = let-through Preparation (a .order) (length (now (a .key))) 0 (length (now (a .tape))) (length (now (a .output))) _ _ (c .before .before .before .before .answer .ensures) (c .before .before .enum-told .given .1) in
+    let w = c .before .key-words .ensures in
+    (t .order, rw (w .0) (t .some), w .1, rw (w .0) (key-long _ (a .order) _ (key-length (a .order) (length (now (a .key))) (t .some))), rw (w .0) (keys-long _ (a .order) _ (eqb-true _ _ (t .output))), rw (w .0) (t .drawn))
 
 same-length : tie.Need-same-length
 same-length c = search needs
 
-returns-4 : tie.Need-returns-4
+returns-2 : tie.Need-returns-2
 unfolding Prepare-outcome
-returns-4 c =
-    let a = c .before .before .before .before .before .before .before .before .before .before .before .before .before .before .before .before .args in
-    let w = c .before .before .before .before .before .before .before .before .before .before .key-words .ensures .0 in
-    let some = c .before .before .before .before .before .before .before .before .before .if2 .left in
-    let roomy = ap (eqb (length (now (a .output)))) (c .before .before .before .before .before .before .before .before .prepared-length .ensures .0) in
-    let e = keyed-check _ _ w some _ (λ m. eqb (length (now (a .output))) (prepared-length m (a .order))) _ (λ m. schedule-need m (a .order)) _ _ _ roomy (c .before .before .before .before .before .before .before .schedule-need .ensures .0) (c .before .before .before .before .before .before .checked .ensures) in
-    let r = keyed-ready _ _ w some _ (λ m. eqb (length (now (a .output))) (prepared-length m (a .order))) _ (λ m. schedule-need m (a .order)) _ _ _ roomy (c .before .before .before .before .before .before .before .schedule-need .ensures .0) (c .before .before .before .before .before .before .checked .ensures) _ (c .before .before .before .before .enum-told .given .1) in
+returns-2 c =
+    let a = c .before .before .before .before .before .before .before .before .before .before .before .args in
+    let t = let-through Preparation (a .order) (length (now (a .key))) 0 (length (now (a .tape))) (length (now (a .output))) _ _ (c .before .before .before .before .before .before .before .answer .ensures) (c .before .before .before .before .before .enum-told .given .1) in
+    let w = c .before .before .before .before .key-words .ensures .0 in
     let made = c .before .before .expand-core .ensures in
-    guarded-done _ _ _ _ _ _ _ _ (sym (c .before .before .before .before .before .before .before .before .before .before .before .before .unserved .ensures) ∙ c .before .before .before .before .before .before .before .before .before .before .before .if1 .left) _ e _ _ _ (c .before .before .before .before .enum-told .given .1) (made .0 ∙ sym (r .answered)) (prepared-made _ (a .order) (now (a .key)) (now (a .tape)) _ (made .1) ∙ ap (λ (n : ℕ). prepared-laid n (a .order) (now (a .key)) (now (a .tape))) w)
+    answered-done _ _ _ _ _ _ _ _ _ (c .before .before .before .before .before .before .before .answer .ensures) _ _ _ (c .before .before .before .before .before .enum-told .given .1) (made .0 ∙ ap (λ (n : ℕ). schedule-need n (a .order)) w ∙ sym (t .counted)) (prepared-made _ (a .order) (now (a .key)) (now (a .tape)) _ (made .1) ∙ ap (λ (n : ℕ). prepared-laid n (a .order) (now (a .key)) (now (a .tape))) w)
 
 pub prepare-spec : {M : Type 1} → statement M
 prepare-spec =
     tie.close
     (tie.spec
-    unserved-requires
-    returns
-    key-words-requires
-    returns-2
-    prepared-length-requires
-    schedule-need-requires
-    checked-requires
+    answer-requires
     enum-told
     enum-told-2
-    returns-3
+    returns
+    key-words-requires
     expand-core-requires
     same-length
-    returns-4)
+    returns-2)

@@ -6,9 +6,10 @@ use denote.Ref.{now}
 use lib.ListN.{length}
 use Rattle.shares.proofs.OutcomeLaws.{answered-refused, answered-done}
 use Rattle.cipher.specs.Cipher.{cipher-need}
-use Rattle.aes.specs.declared.Route.the-variants.{Single}
+use Rattle.aes.specs.declared.Job.the-variants.{Single}
 use Rattle.aes.specs.Directions.{laid-of}
-use Rattle.aes.proofs.CallsLaws.{key-length, key-long, let-through, single-is}
+use Rattle.aes.proofs.CallsLaws.{key-length, block-long, key-long, single-is}
+use Rattle.aes.proofs.PreviewsLaws.{let-through}
 use Rattle.aes.proofs.single.call.Statement.{statement}
 use Rattle.aes.proofs.single.call.Tie as tie
 
@@ -36,7 +37,7 @@ block-core-requires c κs =
     let a = c .before .before .before .before .before .before .before .before .before .args in
     let t = let-through Single (a .order) (length (now (a .key))) (length (now (a .input))) (length (now (a .tape))) (length (now (a .output))) _ _ (c .before .before .before .before .answer .ensures) (c .before .before .enum-told .given .1) in
     let w = c .before .key-words .ensures in
-    (t .order, rw (w .0) (t .some), w .1, rw (w .0) (key-long _ (a .order) _ (key-length (a .order) (length (now (a .key))) (t .some))), t .input-long, t .output-long, rw (w .0) (t .drawn))
+    (t .order, rw (w .0) (t .some), w .1, rw (w .0) (key-long _ (a .order) _ (key-length (a .order) (length (now (a .key))) (t .some))), block-long (a .order) _ (t .input), block-long (a .order) _ (t .output), rw (w .0) (t .drawn))
 
 same-length : tie.Need-same-length
 same-length c = search needs

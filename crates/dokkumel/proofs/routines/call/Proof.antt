@@ -8,7 +8,7 @@ use denote.Ref.{now}
 use types.Run.{OneOf, miss}
 use Rattle.shares.specs.Outcome.{Outcome, refused}
 use Rattle.dokkumel.specs.declared.commands.Command.{Command}
-use Rattle.dokkumel.specs.declared.commands.Command.the-variants.{Encrypt, Decrypt, Prepare, EncryptPrepared, Split, Join, Refresh, Product, Sbox, Read, Sheet, Places, Tape, Help, Unknown}
+use Rattle.dokkumel.specs.declared.commands.Command.the-variants.{Encrypt, Decrypt, Prepare, EncryptPrepared, Split, Join, Refresh, Product, Sbox, Read, Sheet, Places, Tape, Preview, Help, Unknown}
 use Rattle.dokkumel.proofs.commands.Command.{the-type}
 use Rattle.dokkumel.specs.Called.{called}
 use Rattle.dokkumel.proofs.routines.call.Statement.{statement}
@@ -16,7 +16,7 @@ use Rattle.dokkumel.proofs.routines.call.Tie as tie
 
 -- the numbers of the commands that call no routine of this form
 abbrev rest : List ℕ
-rest = 9 ∷ 10 ∷ 11 ∷ 12 ∷ 13 ∷ 14 ∷ []
+rest = 9 ∷ 10 ∷ 11 ∷ 12 ∷ 13 ∷ 14 ∷ 15 ∷ []
 
 others : (k : Command) → OneOf rest (tagOf the-type k) → (d : ℕ) (x y t o : List ℕ) → called k d x y t o ≡ refused 1 o
 others Encrypt h d x y t o = absurd (miss rest 0 tt h)
@@ -32,6 +32,7 @@ others Read h d x y t o = refl
 others Sheet h d x y t o = refl
 others Places h d x y t o = refl
 others Tape h d x y t o = refl
+others Preview h d x y t o = refl
 others Help h d x y t o = refl
 others Unknown h d x y t o = refl
 

@@ -1,0 +1,28 @@
+-- Each preview of the C interface returns the status that its call returns on buffers of these lengths, and leaves the same count behind `taken`.
+-- The equations with `returned` and `foretold` are the contracts of the two wrappers. Document 02, wish 4, decides. Assumes nothing.
+use mathlib.Core.Path.{_≡_}
+use mathlib.Core.List.{List, []}
+use Prim.Native.Nat.{ℕ}
+use lib.ListN.{length}
+use Rattle.aes.specs.Calls.{Encrypt-outcome, Decrypt-outcome, Prepare-outcome, Encrypt-prepared-outcome}
+use Rattle.aes.specs.Previews.{Encrypt-preview, Decrypt-preview, Prepare-preview, Encrypt-prepared-preview}
+use Rattle.aes.proofs.Foretold.{encrypt-ends, decrypt-ends, prepare-ends, encrypt-prepared-ends}
+use Rattle.dokkumel_c.specs.Returned.{gives, returned, foretold}
+use Rattle.dokkumel_c.proofs.ReturnedLaws.{preview-returns}
+
+module _ (d t s n s′ n′ : ℕ) (k x ts o q : List ℕ) where
+  pub preview-encrypt-returns : gives s n q ≡ returned (Encrypt-outcome d k x ts o) t
+      → gives s′ n′ [] ≡ foretold (Encrypt-preview d (length k) (length x) (length ts) (length o)) t → (s ≡ s′) × (n ≡ n′)
+  preview-encrypt-returns = preview-returns t (encrypt-ends d k x ts o)
+
+  pub preview-decrypt-returns : gives s n q ≡ returned (Decrypt-outcome d k x ts o) t
+      → gives s′ n′ [] ≡ foretold (Decrypt-preview d (length k) (length x) (length ts) (length o)) t → (s ≡ s′) × (n ≡ n′)
+  preview-decrypt-returns = preview-returns t (decrypt-ends d k x ts o)
+
+  pub preview-prepare-returns : gives s n q ≡ returned (Prepare-outcome d k ts o) t
+      → gives s′ n′ [] ≡ foretold (Prepare-preview d (length k) (length ts) (length o)) t → (s ≡ s′) × (n ≡ n′)
+  preview-prepare-returns = preview-returns t (prepare-ends d k ts o)
+
+  pub preview-encrypt-prepared-returns : gives s n q ≡ returned (Encrypt-prepared-outcome d k x ts o) t
+      → gives s′ n′ [] ≡ foretold (Encrypt-prepared-preview d (length k) (length x) (length ts) (length o)) t → (s ≡ s′) × (n ≡ n′)
+  preview-encrypt-prepared-returns = preview-returns t (encrypt-prepared-ends d k x ts o)

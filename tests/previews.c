@@ -1,0 +1,112 @@
+/* Previews of jobs that no buffer could be made for: lengths are any numbers, and none may wrap to one that fits. */
+#include "known.h"
+
+#include "block_call.h"
+#include "dokkumel.h"
+
+#include <stdint.h>
+#include <stdio.h>
+
+/* Bytes of a share of a key, or of its round keys, and the S-boxes of a call: for keys of 16, 24 and 32 bytes, from documents 01 and 02. */
+static const size_t raw[3] = { 16, 24, 32 }, round_keys[3] = { 176, 208, 240 };
+static const size_t key_sboxes[3] = { 40, 32, 52 }, round_sboxes[3] = { 160, 192, 224 }, all_sboxes[3] = { 200, 224, 276 };
+
+static const struct job {
+	const char *name;
+	block_preview *preview;
+	const size_t *key, *sboxes;
+	int prepares;
+} jobs[] = {
+	{ "preview_encrypt", dokkumel_preview_encrypt, raw, all_sboxes, 0 },
+	{ "preview_decrypt", dokkumel_preview_decrypt, raw, all_sboxes, 0 },
+	{ "preview_encrypt_prepared", dokkumel_preview_encrypt_prepared, round_keys, round_sboxes, 0 },
+	{ "preview_prepare", NULL, raw, key_sboxes, 1 },
+};
+
+/* The lengths of a job's buffers. */
+struct lengths {
+	size_t key, input, tape, output;
+};
+
+static struct lengths fitting(const struct job *j, size_t d, size_t size)
+{
+	size_t n = d + 1, output = j->prepares ? round_keys[size] : 16;
+	struct lengths l = { n * j->key[size], n * 16, j->sboxes[size] * (2 * d * d + 4 * d), n * output };
+
+	return l;
+}
+
+/* Ends the program unless the preview's status is wanted, and the count behind taken is the need where that is 0, and else what it was. */
+static void is(const struct job *j, size_t d, struct lengths l, uint32_t wanted, size_t need)
+{
+	size_t taken = 12345;
+	uint32_t status = j->prepares ? dokkumel_preview_prepare(d, l.key, l.tape, l.output, &taken)
+		: j->preview(d, l.key, l.input, l.tape, l.output, &taken);
+	char text[200];
+
+	snprintf(text, sizeof text, "%s at order %zu, lengths %zu, %zu, %zu, %zu: %u, not %u, with %zu", j->name, d, l.key, l.input, l.tape,
+		l.output, (unsigned)status, (unsigned)wanted, taken);
+	known_is(status == wanted && taken == (wanted == 0 ? need : 12345), text);
+}
+
+/* A length that differs from a fitting one by so much does not fit: in low bits, and in those that a product with 16, 24 or n would lose. */
+static const size_t more[] = {
+	1, 15, 16, 256, 65536, (size_t)1 << 32, (size_t)1 << 59, (size_t)1 << 60, (size_t)1 << 61, (size_t)3 << 61, (size_t)1 << 63,
+};
+#define MORE (sizeof more / sizeof more[0])
+
+/* A longer key's length may be just so much more. */
+static int fits_a_key(const struct job *j, size_t d, size_t len)
+{
+	size_t n = d + 1;
+
+	return len == n * j->key[0] || len == n * j->key[1] || len == n * j->key[2];
+}
+
+static void far_off(const struct job *j, size_t d, size_t size, size_t add)
+{
+	struct lengths fit = fitting(j, d, size), l = fit;
+	size_t need = fit.tape;
+
+	l.tape = need + add;
+	is(j, d, l, 0, need);
+	l = fit, l.output = fit.output + add;
+	is(j, d, l, 4, need);
+	l = fit, l.input = fit.input + add;
+	is(j, d, l, j->prepares ? 0 : 3, need);
+	l = fit, l.key = fit.key + add;
+	if (!fits_a_key(j, d, l.key))
+		is(j, d, l, 2, need);
+}
+
+/* How much tape must be drawn, and what the largest numbers give. */
+static void largest(const struct job *j, size_t d, size_t size)
+{
+	struct lengths fit = fitting(j, d, size), l = fit;
+	size_t need = fit.tape;
+
+	l.tape = SIZE_MAX;
+	is(j, d, l, 0, need);
+	l.tape = need - 1;
+	is(j, d, l, 5, need);
+	l.output = SIZE_MAX;
+	is(j, d, l, 4, need);
+	l.input = SIZE_MAX;
+	is(j, d, l, j->prepares ? 4 : 3, need);
+	l.key = SIZE_MAX;
+	is(j, d, l, 2, need);
+	is(j, SIZE_MAX, l, 1, need);
+	is(j, 0, fit, 1, need);
+	is(j, 9, fit, 1, need);
+}
+
+void known_previews(void)
+{
+	for (size_t k = 0; k < sizeof jobs / sizeof jobs[0]; k++)
+		for (size_t d = 1; d <= DOKKUMEL_MAX_ORDER; d++)
+			for (size_t size = 0; size < 3; size++) {
+				largest(&jobs[k], d, size);
+				for (size_t m = 0; m < MORE; m++)
+					far_off(&jobs[k], d, size, more[m]);
+			}
+}
