@@ -65,11 +65,20 @@ static void same(const struct plan *c, int b, const struct guarded *g, const uin
 	exit(1);
 }
 
+/* Ends the program if something differs. */
+static void none(const struct plan *c, const char *differs)
+{
+	if (differs == NULL)
+		return;
+	fail_at(c);
+	puts(differs);
+	exit(1);
+}
+
 /* What the output joins to, and for an encryption the other route. */
 static void compare_joined(const struct plan *c, const struct guarded *g)
 {
 	struct joined j;
-	const char *differs;
 
 	joined_make(&j, c, g);
 	for (size_t k = 0; k < j.len; k++) {
@@ -79,19 +88,14 @@ static void compare_joined(const struct plan *c, const struct guarded *g)
 			exit(1);
 		}
 	}
-	differs = c->routine == ENCRYPT ? routes_differ(c, g) : NULL;
-	if (differs != NULL) {
-		fail_at(c);
-		puts(differs);
-		exit(1);
-	}
+	if (c->routine == ENCRYPT)
+		none(c, routes_differ(c, g));
 }
 
 static void compare(const struct plan *c, struct guarded *g)
 {
 	uint8_t *lent[BUFFERS], *second[BUFFERS];
 	uint32_t status, wanted;
-	const char *differs;
 
 	for (int b = 0; b < BUFFERS; b++) {
 		lent[b] = g[b].lent;
@@ -109,12 +113,7 @@ static void compare(const struct plan *c, struct guarded *g)
 			same(c, b, &g[b], g[b].lent, g[b].before, "before the call");
 		same(c, b, &g[b], g[b].lent, g[b].second, "the second's");
 	}
-	differs = foretold_differs(c, g, status);
-	if (differs != NULL) {
-		fail_at(c);
-		puts(differs);
-		exit(1);
-	}
+	none(c, foretold_differs(c, g, status));
 	if (status == 0 && plan_key_bytes(c) != 0)
 		compare_joined(c, g);
 	table_count(c, status);

@@ -3,13 +3,10 @@
 
 #include "block_call.h"
 #include "dokkumel.h"
+#include "key_sizes.h"
 
 #include <stdint.h>
 #include <stdio.h>
-
-/* Bytes of a share of a key, or of its round keys, and the S-boxes of a call: for keys of 16, 24 and 32 bytes, from documents 01 and 02. */
-static const size_t raw[3] = { 16, 24, 32 }, round_keys[3] = { 176, 208, 240 };
-static const size_t key_sboxes[3] = { 40, 32, 52 }, round_sboxes[3] = { 160, 192, 224 }, all_sboxes[3] = { 200, 224, 276 };
 
 static const struct job {
 	const char *name;
@@ -17,10 +14,10 @@ static const struct job {
 	const size_t *key, *sboxes;
 	int prepares;
 } jobs[] = {
-	{ "preview_encrypt", dokkumel_preview_encrypt, raw, all_sboxes, 0 },
-	{ "preview_decrypt", dokkumel_preview_decrypt, raw, all_sboxes, 0 },
-	{ "preview_encrypt_prepared", dokkumel_preview_encrypt_prepared, round_keys, round_sboxes, 0 },
-	{ "preview_prepare", NULL, raw, key_sboxes, 1 },
+	{ "preview_encrypt", dokkumel_preview_encrypt, key_bytes, all_sboxes, 0 },
+	{ "preview_decrypt", dokkumel_preview_decrypt, key_bytes, all_sboxes, 0 },
+	{ "preview_encrypt_prepared", dokkumel_preview_encrypt_prepared, round_key_bytes, round_sboxes, 0 },
+	{ "preview_prepare", NULL, key_bytes, key_sboxes, 1 },
 };
 
 /* The lengths of a job's buffers. */
@@ -30,7 +27,7 @@ struct lengths {
 
 static struct lengths fitting(const struct job *j, size_t d, size_t size)
 {
-	size_t n = d + 1, output = j->prepares ? round_keys[size] : 16;
+	size_t n = d + 1, output = j->prepares ? round_key_bytes[size] : 16;
 	struct lengths l = { n * j->key[size], n * 16, j->sboxes[size] * (2 * d * d + 4 * d), n * output };
 
 	return l;
@@ -55,14 +52,6 @@ static const size_t more[] = {
 };
 #define MORE (sizeof more / sizeof more[0])
 
-/* A longer key's length may be just so much more. */
-static int fits_a_key(const struct job *j, size_t d, size_t len)
-{
-	size_t n = d + 1;
-
-	return len == n * j->key[0] || len == n * j->key[1] || len == n * j->key[2];
-}
-
 static void far_off(const struct job *j, size_t d, size_t size, size_t add)
 {
 	struct lengths fit = fitting(j, d, size), l = fit;
@@ -75,7 +64,8 @@ static void far_off(const struct job *j, size_t d, size_t size, size_t add)
 	l = fit, l.input = fit.input + add;
 	is(j, d, l, j->prepares ? 0 : 3, need);
 	l = fit, l.key = fit.key + add;
-	if (!fits_a_key(j, d, l.key))
+	/* a longer key's length may be just so much more */
+	if (!fits_size(l.key, d, j->key))
 		is(j, d, l, 2, need);
 }
 

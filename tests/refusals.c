@@ -3,6 +3,7 @@
 
 #include "block_call.h"
 #include "dokkumel.h"
+#include "key_sizes.h"
 
 #include <stdio.h>
 #include <string.h>
@@ -13,19 +14,15 @@ static const uint8_t zeros[DOKKUMEL_ENCRYPT_TAPE(8, 32)];
 static uint8_t out[LONGEST];
 static size_t taken;
 
-/* Bytes of a share of a key, or of its round keys, and the S-boxes of a call: for keys of 16, 24 and 32 bytes, from documents 01 and 02. */
-static const size_t raw[3] = { 16, 24, 32 }, round_keys[3] = { 176, 208, 240 };
-static const size_t key_sboxes[3] = { 40, 32, 52 }, round_sboxes[3] = { 160, 192, 224 }, all_sboxes[3] = { 200, 224, 276 };
-
 static const struct block {
 	const char *name;
 	block_call *call;
 	block_preview *preview;
 	const size_t *key, *sboxes;
 } blocks[] = {
-	{ "encrypt", dokkumel_encrypt, dokkumel_preview_encrypt, raw, all_sboxes },
-	{ "decrypt", dokkumel_decrypt, dokkumel_preview_decrypt, raw, all_sboxes },
-	{ "encrypt_prepared", dokkumel_encrypt_prepared, dokkumel_preview_encrypt_prepared, round_keys, round_sboxes },
+	{ "encrypt", dokkumel_encrypt, dokkumel_preview_encrypt, key_bytes, all_sboxes },
+	{ "decrypt", dokkumel_decrypt, dokkumel_preview_decrypt, key_bytes, all_sboxes },
+	{ "encrypt_prepared", dokkumel_encrypt_prepared, dokkumel_preview_encrypt_prepared, round_key_bytes, round_sboxes },
 };
 
 static void is(int good, const char *call, const char *what, size_t d, size_t bytes)
@@ -85,7 +82,7 @@ static uint32_t block(const struct block *b, size_t d, size_t key_len, size_t in
 /* All causes at once, and then one less in each line. */
 static void prepare_in_order(size_t d, size_t size)
 {
-	size_t l = raw[size], key = (d + 1) * l, prepared = (d + 1) * round_keys[size], need = key_sboxes[size] * DOKKUMEL_SBOX_TAPE(d);
+	size_t l = key_bytes[size], key = (d + 1) * l, prepared = (d + 1) * round_key_bytes[size], need = key_sboxes[size] * DOKKUMEL_SBOX_TAPE(d);
 
 	is(refused(prepare(9, key + 1, prepared + 1, need - 1), 1), "prepare", "1 first", d, l);
 	is(refused(prepare(d, key + 1, prepared + 1, need - 1), 2), "prepare", "2 next", d, l);
@@ -97,7 +94,7 @@ static void prepare_in_order(size_t d, size_t size)
 /* The same for a call on one block. */
 static void block_in_order(const struct block *b, size_t d, size_t size)
 {
-	size_t l = raw[size], key = (d + 1) * b->key[size], shared = (d + 1) * 16, need = b->sboxes[size] * DOKKUMEL_SBOX_TAPE(d);
+	size_t l = key_bytes[size], key = (d + 1) * b->key[size], shared = (d + 1) * 16, need = b->sboxes[size] * DOKKUMEL_SBOX_TAPE(d);
 
 	is(refused(block(b, 9, key + 1, shared + 1, shared + 1, need - 1), 1), b->name, "1 first", d, l);
 	is(refused(block(b, d, key + 1, shared + 1, shared + 1, need - 1), 2), b->name, "2 next", d, l);
@@ -107,28 +104,20 @@ static void block_in_order(const struct block *b, size_t d, size_t size)
 	is(block(b, d, key, shared, shared, need) == 0 && taken == need, b->name, "served", d, l);
 }
 
-/* Three lengths have a key's size at order d; any other is refused, among them the other route's and those of other orders. */
-static int fits(size_t len, size_t d, const size_t sizes[3])
-{
-	size_t n = d + 1;
-
-	return len == n * sizes[0] || len == n * sizes[1] || len == n * sizes[2];
-}
-
 static void prepare_at(size_t d, size_t len)
 {
 	size_t n = d + 1;
 
-	is(refused(prepare(d, len, 0, 0), fits(len, d, raw) ? 4 : 2), "prepare", "a key share length", d, len);
+	is(refused(prepare(d, len, 0, 0), fits_size(len, d, key_bytes) ? 4 : 2), "prepare", "a key share length", d, len);
 	for (int size = 0; size < 3; size++)
-		is(refused(prepare(d, n * raw[size], len, 0), len == n * round_keys[size] ? 5 : 4), "prepare", "an output length", d, len);
+		is(refused(prepare(d, n * key_bytes[size], len, 0), len == n * round_key_bytes[size] ? 5 : 4), "prepare", "an output length", d, len);
 }
 
 static void block_at(const struct block *b, size_t d, size_t len)
 {
 	size_t shared = (d + 1) * 16, key = (d + 1) * b->key[0];
 
-	is(refused(block(b, d, len, shared, shared, 0), fits(len, d, b->key) ? 5 : 2), b->name, "a key's length", d, len);
+	is(refused(block(b, d, len, shared, shared, 0), fits_size(len, d, b->key) ? 5 : 2), b->name, "a key's length", d, len);
 	is(refused(block(b, d, key, len, shared, 0), len == shared ? 5 : 3), b->name, "an input length", d, len);
 	is(refused(block(b, d, key, shared, len, 0), len == shared ? 5 : 4), b->name, "an output length", d, len);
 }

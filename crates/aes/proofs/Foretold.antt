@@ -12,11 +12,11 @@ use Rattle.shares.specs.declared.Answer.{Answer}
 use Rattle.shares.specs.declared.Answer.the-variants.{Taken, Refused}
 use Rattle.shares.specs.Outcome.{Outcome, unserved, answered}
 use Rattle.shares.proofs.OutcomeLaws.{Ends, outcome-answer, guarded-ends, answered-fits}
-use Rattle.cipher.specs.Cipher.{schedule-need, prepared-laid, encrypted-with-need, encrypted-with-laid, cipher-need, encrypted-laid, decrypted-laid}
+use Rattle.cipher.specs.Cipher.{schedule-need, encrypted-with-need, cipher-need}
 use Rattle.aes.specs.declared.Job.{Job}
 use Rattle.aes.specs.declared.Job.the-variants.{Single, Preparation, Prepared}
 use Rattle.aes.specs.Fits.{Key-size}
-use Rattle.aes.specs.Calls.{key-words, prepared-length, prepared-words, Encrypt-outcome, Decrypt-outcome, Prepare-outcome, Encrypt-prepared-outcome}
+use Rattle.aes.specs.Calls.{prepared-length, Encrypt-outcome, Decrypt-outcome, Prepare-outcome, Encrypt-prepared-outcome}
 use Rattle.aes.specs.Previews.{words-of, input-fits, output-length, need-of, Job-answer, Encrypt-preview, Decrypt-preview, Prepare-preview, Encrypt-prepared-preview, Foretells, Answers-by-length}
 use Rattle.aes.proofs.CallsLaws.{key-words-of, prepared-words-of, size-bounds}
 
