@@ -21,6 +21,8 @@ fn noise(seed: u64, len: usize) -> Vec<u8> {
         .collect()
 }
 
+const TURNS: usize = 9;
+
 type Encrypt = fn(usize, &[u8], &[u8], &[u8], &mut [u8]) -> usize;
 
 /// Seconds for so many encryptions, each of the block before; and the last output.
@@ -41,7 +43,7 @@ fn compare(count: usize, order: usize) -> (f64, f64) {
     let (key, block) = (noise(1, 16 * n), noise(2, 16 * n));
     let tape = noise(3, 200 * (2 * order * order + 4 * order));
     let (mut ours, mut theirs) = (f64::MAX, f64::MAX);
-    for _ in 0..5 {
+    for _ in 0..TURNS {
         let (a, x) = timed(library::encrypt, count, order, &key, &block, &tape);
         let (b, y) = timed(plain::encrypt, count, order, &key, &block, &tape);
         assert_eq!(x, y, "the outputs differ at order {order}");
@@ -52,8 +54,8 @@ fn compare(count: usize, order: usize) -> (f64, f64) {
 }
 
 fn main() {
-    println!("encryptions with a 16-byte key, library against plain Rust with the same steps, best of 5 turns");
-    for (order, count) in [(2, 10_000), (1, 4000), (3, 2000), (4, 1000), (5, 1000), (6, 500), (7, 500), (8, 500)] {
+    println!("encryptions with a 16-byte key, library against plain Rust with the same steps, best of {TURNS} turns");
+    for (order, count) in [(2, 10_000), (1, 10_000), (3, 8000), (4, 6000), (5, 4000), (6, 4000), (7, 3000), (8, 3000)] {
         let (ours, theirs) = compare(count, order);
         println!("order {order}, {count:5} encryptions: {ours:.3} s, {theirs:.3} s, ratio {:.2}", ours / theirs);
     }

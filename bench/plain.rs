@@ -1,18 +1,42 @@
-//! The yardstick: masked AES in plain Rust, with the same steps and the same shift-and-add products as the library.
+//! The yardstick: masked AES in plain Rust, with the same steps and the same log and antilog tables as the library.
 //! Written from the steps alone, share after share, and simple on purpose.
 
 /// Doubling in AES's field.
-fn double(a: u8) -> u8 {
+const fn double(a: u8) -> u8 {
     (a << 1) ^ (0x1b & 0u8.wrapping_sub(a >> 7))
 }
 
-/// The product by shift and add, bit 7 of the second factor first.
-fn times(a: u8, b: u8) -> u8 {
-    let mut p = 0;
-    for k in (0..8).rev() {
-        p = double(p) ^ (a & 0u8.wrapping_sub((b >> k) & 1));
+/// 03 to the power k for k below 510, then zeros.
+const fn antilogs() -> [u8; 1021] {
+    let mut table = [0; 1021];
+    let mut power = 1;
+    let mut k = 0;
+    while k < 510 {
+        table[k] = power;
+        power ^= double(power);
+        k += 1;
     }
-    p
+    table
+}
+
+/// The k below 255 at which 03 to the k is the byte, and 510 for 00.
+const fn logs() -> [u16; 256] {
+    let antilogs = antilogs();
+    let mut table = [510; 256];
+    let mut k = 0;
+    while k < 255 {
+        table[antilogs[k] as usize] = k as u16;
+        k += 1;
+    }
+    table
+}
+
+static ANTILOGS: [u8; 1021] = antilogs();
+static LOGS: [u16; 256] = logs();
+
+/// The product by logs: the log of 00 leads into the zeros.
+fn times(a: u8, b: u8) -> u8 {
+    ANTILOGS[LOGS[a as usize] as usize + LOGS[b as usize] as usize]
 }
 
 /// The affine map of the S-box, by its row masks.
@@ -59,23 +83,16 @@ fn refresh(n: usize, x: &mut Shares, tape: &mut Tape) {
 }
 
 fn product(n: usize, a: &Shares, b: &Shares, tape: &mut Tape) -> Shares {
-    let mut r = [[0u8; MOST]; MOST];
+    let mut c = [0u8; MOST];
+    for i in 0..n {
+        c[i] = times(a[i], b[i]);
+    }
     for i in 0..n {
         for j in i + 1..n {
             let t = tape.draw();
-            r[i][j] = t;
-            r[j][i] = (t ^ times(a[i], b[j])) ^ times(a[j], b[i]);
+            c[i] ^= t;
+            c[j] ^= (t ^ times(a[i], b[j])) ^ times(a[j], b[i]);
         }
-    }
-    let mut c = [0u8; MOST];
-    for i in 0..n {
-        let mut s = times(a[i], b[i]);
-        for j in 0..n {
-            if j != i {
-                s ^= r[i][j];
-            }
-        }
-        c[i] = s;
     }
     c
 }

@@ -23,7 +23,9 @@ pub fn prepare(order: usize, key: &[u8], tape: &[u8], output: &mut [u8]) -> Answ
         return answer;
     };
     let nk = sizes::key_words(order, key.len());
-    Answer::Taken(schedule::expansion::expand_core(nk, order, key, tape, output))
+    let logs = gf256::logs();
+    let antilogs = gf256::antilogs();
+    Answer::Taken(schedule::expansion::expand_core(&logs, &antilogs, nk, order, key, tape, output))
 }
 
 // An encryption from prepared keys: the rounds with whatever these hold as round keys.
@@ -48,7 +50,11 @@ pub fn encrypt_prepared(
         return answer;
     };
     let nk = sizes::prepared_words(order, prepared.len());
+    let logs = gf256::logs();
+    let antilogs = gf256::antilogs();
     Answer::Taken(crate::rounds::rounds_core(
+        &logs,
+        &antilogs,
         Direction::Forward,
         nk,
         order,

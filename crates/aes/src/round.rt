@@ -3,11 +3,14 @@
 ghost use mathlib.Core.Path.{_≡_};
 ghost use Prim.Native.Nat.{suc, _*_, _+_, _≤_};
 ghost use lib.ListN.{length};
+ghost use Rattle.gf256.specs.Tables.{Tables};
 ghost use Rattle.shares.specs.Strings.{parts, laid};
 ghost use Rattle.cipher.specs.Cipher.{round-need};
 ghost use Rattle.aes.specs.Fits.{Round-fits};
 ghost use Rattle.aes.specs.Directions.{shifted-of, keyed-of, round-of, key-of};
+use gf256::Antilogs;
 use gf256::Direction;
+use gf256::Logs;
 use state::Step;
 
 // Which round key is added i-th, from 0 on.
@@ -23,6 +26,8 @@ pub fn key_number(which: Direction, nr: usize, i: usize) -> usize
 
 // SubBytes, then ShiftRows; in decryption InvShiftRows, then InvSubBytes. Answers with how many bytes were drawn.
 fn sub_and_shift(
+    logs: &Logs,
+    antilogs: &Antilogs,
     which: Direction,
     d: usize,
     tape: &[u8],
@@ -31,18 +36,27 @@ fn sub_and_shift(
     t: &mut [u8],
     s: &mut [u8],
 ) -> usize
-    requires { ⌜ (d ≤ 8) × (round-need d ≤ length (now tape)) × (length (now x) ≡ suc d) × (length (now y) ≡ suc d) × (length (now t) ≡ 16) × (length (now s) ≡ suc d * 16) ⌝ }
+    requires { ⌜ (d ≤ 8) × (round-need d ≤ length (now tape)) × (length (now x) ≡ suc d) × (length (now y) ≡ suc d) × (length (now t) ≡ 16) × (length (now s) ≡ suc d * 16) × Tables (now logs) (now antilogs) ⌝ }
     ensures { λ q. ⌜ (q ≡ round-need d) × (now (s .exit) ≡ laid (shifted-of which d (parts (suc d) 16 (now (s .entry))) (now (tape .entry)))) ⌝ }
 {
     match which {
         Direction::Forward => {
-            let drawn = state::substitution::sub_rows(Direction::Forward, d, tape, x, y, s);
+            let drawn = state::substitution::sub_rows(
+                logs,
+                antilogs,
+                Direction::Forward,
+                d,
+                tape,
+                x,
+                y,
+                s,
+            );
             state::linear::step_all(Step::ShiftRows, Direction::Forward, d, t, s);
             drawn
         }
         Direction::Inverse => {
             state::linear::step_all(Step::ShiftRows, Direction::Inverse, d, t, s);
-            state::substitution::sub_rows(Direction::Inverse, d, tape, x, y, s)
+            state::substitution::sub_rows(logs, antilogs, Direction::Inverse, d, tape, x, y, s)
         }
     }
 }
@@ -74,6 +88,8 @@ fn mix_and_add(
 
 // A round with round key r; the last has no MixColumns. Answers with how many bytes were drawn.
 pub fn make_round(
+    logs: &Logs,
+    antilogs: &Antilogs,
     which: Direction,
     last: bool,
     d: usize,
@@ -86,10 +102,10 @@ pub fn make_round(
     t: &mut [u8],
     s: &mut [u8],
 ) -> usize
-    requires { ⌜ Round-fits d m r (now keys) (now tape) (now x) (now y) (now t) (now s) ⌝ }
+    requires { ⌜ Round-fits d m r (now keys) (now tape) (now x) (now y) (now t) (now s) × Tables (now logs) (now antilogs) ⌝ }
     ensures { λ q. ⌜ (q ≡ round-need d) × (now (s .exit) ≡ laid (round-of which last d r (parts (suc d) m (now (keys .entry))) (parts (suc d) 16 (now (s .entry))) (now (tape .entry)))) ⌝ }
 {
-    let drawn = sub_and_shift(which, d, tape, x, y, t, s);
+    let drawn = sub_and_shift(logs, antilogs, which, d, tape, x, y, t, s);
     if last {
         state::linear::add_key(d, m, r, keys, s);
     } else {

@@ -2,6 +2,7 @@
 ghost use mathlib.Core.Path.{_≡_};
 ghost use Prim.Native.Nat.{suc, _+_, _*_, _≤_};
 ghost use lib.ListN.{length};
+ghost use Rattle.gf256.specs.Tables.{Tables};
 ghost use Rattle.shares.specs.Outcome.{outcome};
 ghost use Rattle.cipher.specs.Fips197.{rounds};
 ghost use Rattle.cipher.specs.Cipher as Cipher;
@@ -9,11 +10,15 @@ ghost use Rattle.aes.specs.Calls.{Encrypt-outcome, Decrypt-outcome};
 ghost use Rattle.aes.specs.Directions.{laid-of, Single-outcome};
 use crate::Job;
 use crate::sizes;
+use gf256::Antilogs;
 use gf256::Direction;
+use gf256::Logs;
 use shares::Answer;
 
 // The key expansion draws first, then the rounds.
 fn block_with(
+    logs: &Logs,
+    antilogs: &Antilogs,
     which: Direction,
     nk: usize,
     d: usize,
@@ -23,15 +28,28 @@ fn block_with(
     keys: &mut [u8],
     output: &mut [u8],
 ) -> usize
-    requires { ⌜ (d ≤ 8) × (1 ≤ nk) × (nk ≤ 8) × (length (now key) ≡ suc d * (4 * nk)) × (length (now input) ≡ suc d * 16) × (length (now keys) ≡ suc d * (16 * suc (rounds nk))) × (length (now output) ≡ suc d * 16) × (Cipher.cipher-need nk d ≤ length (now tape)) ⌝ }
+    requires { ⌜ (d ≤ 8) × (1 ≤ nk) × (nk ≤ 8) × (length (now key) ≡ suc d * (4 * nk)) × (length (now input) ≡ suc d * 16) × (length (now keys) ≡ suc d * (16 * suc (rounds nk))) × (length (now output) ≡ suc d * 16) × (Cipher.cipher-need nk d ≤ length (now tape)) × Tables (now logs) (now antilogs) ⌝ }
     ensures { λ r. ⌜ (r ≡ Cipher.cipher-need nk d) × (now (output .exit) ≡ laid-of which nk d (now (key .entry)) (now (input .entry)) (now (tape .entry))) ⌝ }
 {
-    let drawn = schedule::expansion::expand_core(nk, d, key, tape, keys);
-    drawn + crate::rounds::rounds_core(which, nk, d, keys, input, &tape[drawn..], output)
+    let drawn = schedule::expansion::expand_core(logs, antilogs, nk, d, key, tape, keys);
+    drawn
+        + crate::rounds::rounds_core(
+            logs,
+            antilogs,
+            which,
+            nk,
+            d,
+            keys,
+            input,
+            &tape[drawn..],
+            output,
+        )
 }
 
 // A block, with a buffer for the round keys: at most 9 shares of 240 bytes.
 fn block_core(
+    logs: &Logs,
+    antilogs: &Antilogs,
     which: Direction,
     nk: usize,
     d: usize,
@@ -40,12 +58,23 @@ fn block_core(
     tape: &[u8],
     output: &mut [u8],
 ) -> usize
-    requires { ⌜ (d ≤ 8) × (1 ≤ nk) × (nk ≤ 8) × (length (now key) ≡ suc d * (4 * nk)) × (length (now input) ≡ suc d * 16) × (length (now output) ≡ suc d * 16) × (Cipher.cipher-need nk d ≤ length (now tape)) ⌝ }
+    requires { ⌜ (d ≤ 8) × (1 ≤ nk) × (nk ≤ 8) × (length (now key) ≡ suc d * (4 * nk)) × (length (now input) ≡ suc d * 16) × (length (now output) ≡ suc d * 16) × (Cipher.cipher-need nk d ≤ length (now tape)) × Tables (now logs) (now antilogs) ⌝ }
     ensures { λ r. ⌜ (r ≡ Cipher.cipher-need nk d) × (now (output .exit) ≡ laid-of which nk d (now (key .entry)) (now (input .entry)) (now (tape .entry))) ⌝ }
 {
     let mut keys = [0u8; 2160];
     let size = sizes::prepared_length(nk, d);
-    block_with(which, nk, d, key, input, tape, &mut keys[0..size], output)
+    block_with(
+        logs,
+        antilogs,
+        which,
+        nk,
+        d,
+        key,
+        input,
+        tape,
+        &mut keys[0..size],
+        output,
+    )
 }
 
 // A single call: the round keys are made anew, used, and left behind.
@@ -71,7 +100,9 @@ fn call(
         return answer;
     };
     let nk = sizes::key_words(order, key.len());
-    Answer::Taken(block_core(which, nk, order, key, input, tape, output))
+    let logs = gf256::logs();
+    let antilogs = gf256::antilogs();
+    Answer::Taken(block_core(&logs, &antilogs, which, nk, order, key, input, tape, output))
 }
 
 pub fn encrypt(order: usize, key: &[u8], input: &[u8], tape: &[u8], output: &mut [u8]) -> Answer

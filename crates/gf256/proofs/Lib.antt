@@ -3,6 +3,7 @@ pub mod DigitMasks
 pub mod ProductLaws
 pub mod FromTopLaws
 pub mod InverseLaws
+pub mod TablesLaws
 pub mod AffineLaws
 pub mod SBoxLaws
 pub mod ColumnLaws

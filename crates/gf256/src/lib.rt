@@ -4,19 +4,31 @@ mod affine_map;
 mod columns;
 mod powers;
 mod product;
+mod table_product;
+mod tables;
 
 pub use affine_map::affine;
 pub use affine_map::constant;
 pub use columns::mix_by;
 pub use columns::mix_column;
-pub use powers::fourth;
-pub use powers::sixteenth;
-pub use powers::squared;
+pub use powers::raised;
 pub use product::double;
 pub use product::times;
+pub use table_product::table_times;
+pub use tables::Antilogs;
+pub use tables::Logs;
+pub use tables::antilogs;
+pub use tables::logs;
 
 // Which way AES runs: by the cipher of FIPS 197, or by its inverse cipher.
 pub enum Direction {
     Forward,
     Inverse,
+}
+
+// The powers of a byte that the S-box needs share by share.
+pub enum Exponent {
+    Two,
+    Four,
+    Sixteen,
 }

@@ -1,4 +1,5 @@
 pub mod TermsLaws
+pub mod SumsLaws
 pub mod CallsLaws
 pub mod SheetParts
 pub mod ReadingLaws

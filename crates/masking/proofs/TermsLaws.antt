@@ -37,7 +37,7 @@ before-row-le n i h =
 
 module _ (n : ℕ) (a b ts : List ℕ) where
   -- r(i, j) of the product
-  abbrev r : (i j : ℕ) → ℕ
+  abbrev pub r : (i j : ℕ) → ℕ
   r i j = term times (at a) (at b) (drawn n ts) i j
 
   -- ---- pair by pair

@@ -2,11 +2,11 @@
 -- Document 01, "The steps over shares", decides. Assumes nothing: these are definitions.
 use mathlib.Core.Path.{_≡_}
 use mathlib.Core.List.{List, [], _∷_}
-use Prim.Native.Nat.{ℕ, suc, _+_, _*_, _<_}
+use Prim.Native.Nat.{ℕ, suc, _+_, _*_, _-_, _≤_, _<_}
 use lib.Bits.{bitXor}
 use Rattle.xor.specs.Lists.{at, runs}
 use Rattle.gf256.specs.Field.{times}
-use Rattle.isw.specs.Place.{term, drawn}
+use Rattle.isw.specs.Place.{term, row, drawn}
 use Rattle.masking.specs.declared.Pair.{Pair}
 
 -- the five bytes of a pair i < j, from the drawn byte and the shares a_i, b_j, a_j, b_i
@@ -25,3 +25,8 @@ row-bytes a b ts i w = runs (λ m. bytes-of (pair-of (at ts m) (at a i) (at b (s
 -- a table of nine columns that holds each term r(i, j) of a product of n shares at i * 9 + j
 pub record Terms (n : ℕ) (a b tape table : List ℕ) : Type 0 where
   pub at-each : (i j : ℕ) → i < n → j < n → (i ≡ j → ⊥) → at table (i * 9 + j) ≡ term times (at a) (at b) (drawn n tape) i j
+
+-- the running sums of a product of n shares before row i of its pairs: the shares before i have taken in all their terms, each other share the first i
+pub record Sums (n : ℕ) (a b tape : List ℕ) (i : ℕ) (sums : List ℕ) : Type 0 where
+  pub whole : (k : ℕ) → k < i → at sums k ≡ row times (at a) (at b) (drawn n tape) k (n - 1)
+  pub begun : (k : ℕ) → i ≤ k → k < n → at sums k ≡ row times (at a) (at b) (drawn n tape) k i

@@ -3,17 +3,21 @@
 ghost use mathlib.Core.Path.{_≡_};
 ghost use Prim.Native.Nat.{_+_, _≤_, _<_};
 ghost use lib.Bits.{bitXor};
+ghost use Rattle.gf256.specs.Tables.{Tables};
 ghost use Rattle.isw.specs.Place as Place;
 ghost use Rattle.masking.specs.Steps;
 use crate::Pair;
+use gf256::Antilogs;
+use gf256::Logs;
 
 // r(j, i) is (r(i, j) XOR a_i · b_j) XOR a_j · b_i, in that order.
-pub fn pair_step(r: u8, ai: u8, bj: u8, aj: u8, bi: u8) -> Pair
+pub fn pair_step(logs: &Logs, antilogs: &Antilogs, r: u8, ai: u8, bj: u8, aj: u8, bi: u8) -> Pair
+    requires { ⌜ Tables (now logs) (now antilogs) ⌝ }
     ensures { λ p. ⌜ p ≡ Steps.pair-of r ai bj aj bi ⌝ }
 {
-    let cross = gf256::times(ai, bj);
+    let cross = gf256::table_times(logs, antilogs, ai, bj);
     let half = r ^ cross;
-    let crossed = gf256::times(aj, bi);
+    let crossed = gf256::table_times(logs, antilogs, aj, bi);
     Pair {
         drawn: r,
         cross,

@@ -7,8 +7,7 @@ use lib.Seq.{drop-drop}
 use Rattle.gf256.specs.Field.{sixteenth}
 use Rattle.isw.specs.Place.{product-need}
 use Rattle.shares.specs.Refresh.{refreshed}
-use Rattle.shares.specs.Writes.{front}
-use Rattle.shares.proofs.WriteLaws.{part-rest, front-all}
+use Rattle.shares.proofs.WriteLaws.{part-rest}
 use Rattle.sbox.specs.Box.{masked-product, stage-z, stage-y, stage-w, stage-v, stage-last, stage-need, power-254}
 
 -- what a callee gets as `&tape[k..]`
@@ -16,10 +15,9 @@ abbrev rest : (tape : List ℕ) (k : ℕ) → List ℕ
 rest ts k = take (length ts - k) (drop k ts)
 
 module _ (d : ℕ) where
-  -- x over o, f over each share, and a refresh
-  pub refreshed-after : (f : ℕ → ℕ) (x o p q r ts : List ℕ) → length x ≡ length o → p ≡ front x o → q ≡ map f p → r ≡ refreshed d q ts
-      → r ≡ refreshed d (map f x) ts
-  refreshed-after f x o p q r ts h e₁ e₂ e₃ = rw (e₃, e₂, e₁, front-all x o h) refl
+  -- f over each share, and a refresh
+  pub refreshed-after : (f : ℕ → ℕ) (x q r ts : List ℕ) → q ≡ map f x → r ≡ refreshed d q ts → r ≡ refreshed d (map f x) ts
+  refreshed-after f x q r ts e₁ e₂ = rw (e₂, e₁) refl
 
   -- a product of shares that are known, with the tape from k on
   pub product-after : (k n : ℕ) (a b a′ b′ ts o : List ℕ) → k ≡ n → a ≡ a′ → b ≡ b′ → o ≡ masked-product d a b (rest ts k)

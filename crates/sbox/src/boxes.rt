@@ -4,10 +4,13 @@ ghost use mathlib.Core.List.{map};
 ghost use Prim.Native.Nat.{_+_, _%_, _≤_, _<_};
 ghost use lib.ListN.{length};
 ghost use Rattle.gf256.specs.Directions.{affine-of, constant-of};
+ghost use Rattle.gf256.specs.Tables.{Tables};
 ghost use Rattle.shares.specs.Outcome.{outcome};
 ghost use Rattle.sbox.specs.Box;
 ghost use Rattle.sbox.specs.Calls.{Box-outcome};
+use gf256::Antilogs;
 use gf256::Direction;
+use gf256::Logs;
 use shares::Answer;
 use shares::Refusal;
 
@@ -48,32 +51,54 @@ pub fn box_need(d: usize) -> usize
 }
 
 // The S-box of the shares of a byte. Answers with how many bytes were drawn.
-fn box_core(d: usize, x: &[u8], tape: &[u8], output: &mut [u8]) -> usize
-    requires { ⌜ (d ≤ 8) × (length (now x) ≡ d + 1) × (length (now output) ≡ d + 1) × (Box.box-need d ≤ length (now tape)) ⌝ }
+fn box_core(
+    logs: &Logs,
+    antilogs: &Antilogs,
+    d: usize,
+    x: &[u8],
+    tape: &[u8],
+    output: &mut [u8],
+) -> usize
+    requires { ⌜ (d ≤ 8) × (length (now x) ≡ d + 1) × (length (now output) ≡ d + 1) × (Box.box-need d ≤ length (now tape)) × Tables (now logs) (now antilogs) ⌝ }
     ensures { λ r. ⌜ (r ≡ Box.box-need d) × (now (output .exit) ≡ Box.box d (now (x .entry)) (now (tape .entry))) ⌝ }
 {
-    let drawn = crate::powers::power_core(d, x, tape, output);
+    let drawn = crate::powers::power_core(logs, antilogs, d, x, tape, output);
     affine_shares(Direction::Forward, d, output);
     drawn
 }
 
 // The inverse S-box of the shares of a byte, which are used up. Answers with how many bytes were drawn.
-fn inverse_box_core(d: usize, x: &mut [u8], tape: &[u8], output: &mut [u8]) -> usize
-    requires { ⌜ (d ≤ 8) × (length (now x) ≡ d + 1) × (length (now output) ≡ d + 1) × (Box.box-need d ≤ length (now tape)) ⌝ }
+fn inverse_box_core(
+    logs: &Logs,
+    antilogs: &Antilogs,
+    d: usize,
+    x: &mut [u8],
+    tape: &[u8],
+    output: &mut [u8],
+) -> usize
+    requires { ⌜ (d ≤ 8) × (length (now x) ≡ d + 1) × (length (now output) ≡ d + 1) × (Box.box-need d ≤ length (now tape)) × Tables (now logs) (now antilogs) ⌝ }
     ensures { λ r. ⌜ (r ≡ Box.box-need d) × (now (output .exit) ≡ Box.inverse-box d (now (x .entry)) (now (tape .entry))) ⌝ }
 {
     affine_shares(Direction::Inverse, d, x);
-    crate::powers::power_core(d, x, tape, output)
+    crate::powers::power_core(logs, antilogs, d, x, tape, output)
 }
 
 // The S-box of the direction; the shares in x may be used up. Answers with how many bytes were drawn.
-pub fn box_by(which: Direction, d: usize, x: &mut [u8], tape: &[u8], output: &mut [u8]) -> usize
-    requires { ⌜ (d ≤ 8) × (length (now x) ≡ d + 1) × (length (now output) ≡ d + 1) × (Box.box-need d ≤ length (now tape)) ⌝ }
+pub fn box_by(
+    logs: &Logs,
+    antilogs: &Antilogs,
+    which: Direction,
+    d: usize,
+    x: &mut [u8],
+    tape: &[u8],
+    output: &mut [u8],
+) -> usize
+    requires { ⌜ (d ≤ 8) × (length (now x) ≡ d + 1) × (length (now output) ≡ d + 1) × (Box.box-need d ≤ length (now tape)) × Tables (now logs) (now antilogs) ⌝ }
     ensures { λ r. ⌜ (r ≡ Box.box-need d) × (now (output .exit) ≡ Box.box-of which d (now (x .entry)) (now (tape .entry))) ⌝ }
 {
     match which {
-        Direction::Forward => box_core(d, x, tape, output),
-        Direction::Inverse => inverse_box_core(d, x, tape, output),
+        Direction::Forward => box_core(logs, antilogs, d, x, tape, output),
+        Direction::Inverse => inverse_box_core(logs, antilogs, d, x, tape, output),
     }
 }
 
@@ -94,5 +119,7 @@ pub fn masked_box(order: usize, input: &[u8], tape: &[u8], output: &mut [u8]) ->
     let Answer::Taken(_) = answer else {
         return answer;
     };
-    Answer::Taken(box_core(order, input, tape, output))
+    let logs = gf256::logs();
+    let antilogs = gf256::antilogs();
+    Answer::Taken(box_core(&logs, &antilogs, order, input, tape, output))
 }

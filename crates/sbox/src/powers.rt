@@ -4,76 +4,81 @@ ghost use mathlib.Core.Path.{_≡_};
 ghost use mathlib.Core.List.{map};
 ghost use Prim.Native.Nat.{_+_, _≤_};
 ghost use lib.ListN.{length};
-ghost use Rattle.gf256.specs.Field as Field;
+ghost use Rattle.gf256.specs.Exponents.{raised-to};
+ghost use Rattle.gf256.specs.Tables.{Tables};
 ghost use Rattle.isw.specs.Place as Place;
 ghost use Rattle.shares.specs.Refresh as Refresh;
 ghost use Rattle.sbox.specs.Box;
+use gf256::Antilogs;
+use gf256::Exponent;
+use gf256::Logs;
 
-// Each share squared.
-fn square_all(x: &mut [u8])
-    ensures { λ _. ⌜ now (x .exit) ≡ map Field.squared (now (x .entry)) ⌝ }
+// Each share of x to the power that is named, into z.
+fn raise(logs: &Logs, antilogs: &Antilogs, which: Exponent, x: &[u8], z: &mut [u8])
+    requires { ⌜ (length (now z) ≡ length (now x)) × Tables (now logs) (now antilogs) ⌝ }
+    ensures { λ _. ⌜ now (z .exit) ≡ map (raised-to which) (now (x .entry)) ⌝ }
 {
     for k in 0..x.len() {
-        x[k] = gf256::squared(x[k]);
+        z[k] = gf256::raised(logs, antilogs, which, x[k]);
     }
 }
 
-// Each share to the fourth.
-fn fourth_all(x: &mut [u8])
-    ensures { λ _. ⌜ now (x .exit) ≡ map Field.fourth (now (x .entry)) ⌝ }
-{
-    square_all(x);
-    square_all(x);
-}
-
-// Each share to the sixteenth.
-fn sixteenth_all(x: &mut [u8])
-    ensures { λ _. ⌜ now (x .exit) ≡ map Field.sixteenth (now (x .entry)) ⌝ }
-{
-    fourth_all(x);
-    fourth_all(x);
-}
-
 // z = x², refreshed. Answers with how many bytes were drawn.
-fn make_z(d: usize, x: &[u8], tape: &[u8], z: &mut [u8]) -> usize
-    requires { ⌜ (length (now x) ≡ d + 1) × (length (now z) ≡ d + 1) × (Refresh.refresh-need d ≤ length (now tape)) ⌝ }
+fn make_z(logs: &Logs, antilogs: &Antilogs, d: usize, x: &[u8], tape: &[u8], z: &mut [u8]) -> usize
+    requires { ⌜ (length (now x) ≡ d + 1) × (length (now z) ≡ d + 1) × (Refresh.refresh-need d ≤ length (now tape)) × Tables (now logs) (now antilogs) ⌝ }
     ensures { λ r. ⌜ (r ≡ Refresh.refresh-need d) × (now (z .exit) ≡ Box.stage-z d (now (x .entry)) (now (tape .entry))) ⌝ }
 {
-    shares::bytes::put(x, z);
-    square_all(z);
+    raise(logs, antilogs, Exponent::Two, x, z);
     shares::refreshing::refresh_core(d, tape, z)
 }
 
 // w = y⁴, refreshed. Answers with how many bytes were drawn.
-fn make_w(d: usize, y: &[u8], tape: &[u8], w: &mut [u8]) -> usize
-    requires { ⌜ (length (now y) ≡ d + 1) × (length (now w) ≡ d + 1) × (Refresh.refresh-need d ≤ length (now tape)) ⌝ }
+fn make_w(logs: &Logs, antilogs: &Antilogs, d: usize, y: &[u8], tape: &[u8], w: &mut [u8]) -> usize
+    requires { ⌜ (length (now y) ≡ d + 1) × (length (now w) ≡ d + 1) × (Refresh.refresh-need d ≤ length (now tape)) × Tables (now logs) (now antilogs) ⌝ }
     ensures { λ r. ⌜ (r ≡ Refresh.refresh-need d) × (now (w .exit) ≡ Box.stage-w d (now (y .entry)) (now (tape .entry))) ⌝ }
 {
-    shares::bytes::put(y, w);
-    fourth_all(w);
+    raise(logs, antilogs, Exponent::Four, y, w);
     shares::refreshing::refresh_core(d, tape, w)
 }
 
 // The first stage: z, and y = z·x. Answers with how many bytes were drawn.
-fn first_stage(d: usize, x: &[u8], tape: &[u8], z: &mut [u8], y: &mut [u8]) -> usize
-    requires { ⌜ (d ≤ 8) × (length (now x) ≡ d + 1) × (length (now z) ≡ d + 1) × (length (now y) ≡ d + 1) × (Box.stage-need d ≤ length (now tape)) ⌝ }
+fn first_stage(
+    logs: &Logs,
+    antilogs: &Antilogs,
+    d: usize,
+    x: &[u8],
+    tape: &[u8],
+    z: &mut [u8],
+    y: &mut [u8],
+) -> usize
+    requires { ⌜ (d ≤ 8) × (length (now x) ≡ d + 1) × (length (now z) ≡ d + 1) × (length (now y) ≡ d + 1) × (Box.stage-need d ≤ length (now tape)) × Tables (now logs) (now antilogs) ⌝ }
     ensures { λ r. ⌜ (r ≡ Box.stage-need d) × (now (z .exit) ≡ Box.stage-z d (now (x .entry)) (now (tape .entry))) × (now (y .exit) ≡ Box.stage-y d (now (x .entry)) (now (tape .entry))) ⌝ }
 {
-    let drawn = make_z(d, x, tape, z);
-    drawn + masking::product::product_core(d, z, x, &tape[drawn..], y)
+    let drawn = make_z(logs, antilogs, d, x, tape, z);
+    drawn + masking::product::product_core(logs, antilogs, d, z, x, &tape[drawn..], y)
 }
 
 // The second stage: w, and v = y·w. Answers with how many bytes were drawn.
-fn second_stage(d: usize, y: &[u8], tape: &[u8], w: &mut [u8], v: &mut [u8]) -> usize
-    requires { ⌜ (d ≤ 8) × (length (now y) ≡ d + 1) × (length (now w) ≡ d + 1) × (length (now v) ≡ d + 1) × (Box.stage-need d ≤ length (now tape)) ⌝ }
+fn second_stage(
+    logs: &Logs,
+    antilogs: &Antilogs,
+    d: usize,
+    y: &[u8],
+    tape: &[u8],
+    w: &mut [u8],
+    v: &mut [u8],
+) -> usize
+    requires { ⌜ (d ≤ 8) × (length (now y) ≡ d + 1) × (length (now w) ≡ d + 1) × (length (now v) ≡ d + 1) × (Box.stage-need d ≤ length (now tape)) × Tables (now logs) (now antilogs) ⌝ }
     ensures { λ r. ⌜ (r ≡ Box.stage-need d) × (now (w .exit) ≡ Box.stage-w d (now (y .entry)) (now (tape .entry))) × (now (v .exit) ≡ Box.stage-v d (now (y .entry)) (now (tape .entry))) ⌝ }
 {
-    let drawn = make_w(d, y, tape, w);
-    drawn + masking::product::product_core(d, y, w, &tape[drawn..], v)
+    let drawn = make_w(logs, antilogs, d, y, tape, w);
+    drawn + masking::product::product_core(logs, antilogs, d, y, w, &tape[drawn..], v)
 }
 
-// The last stage: v¹⁶·w by way of y, and that times z. v is used up. Answers with how many bytes were drawn.
+// The last stage: v¹⁶ into y, v¹⁶·w back into v, and that times z. Answers with how many bytes were drawn.
 fn last_stage(
+    logs: &Logs,
+    antilogs: &Antilogs,
     d: usize,
     v: &mut [u8],
     w: &[u8],
@@ -82,16 +87,18 @@ fn last_stage(
     y: &mut [u8],
     output: &mut [u8],
 ) -> usize
-    requires { ⌜ (d ≤ 8) × (length (now v) ≡ d + 1) × (length (now w) ≡ d + 1) × (length (now z) ≡ d + 1) × (length (now y) ≡ d + 1) × (length (now output) ≡ d + 1) × (Place.product-need d + Place.product-need d ≤ length (now tape)) ⌝ }
+    requires { ⌜ (d ≤ 8) × (length (now v) ≡ d + 1) × (length (now w) ≡ d + 1) × (length (now z) ≡ d + 1) × (length (now y) ≡ d + 1) × (length (now output) ≡ d + 1) × (Place.product-need d + Place.product-need d ≤ length (now tape)) × Tables (now logs) (now antilogs) ⌝ }
     ensures { λ r. ⌜ (r ≡ Place.product-need d + Place.product-need d) × (now (output .exit) ≡ Box.stage-last d (now (v .entry)) (now (w .entry)) (now (z .entry)) (now (tape .entry))) ⌝ }
 {
-    sixteenth_all(v);
-    let drawn = masking::product::product_core(d, v, w, tape, y);
-    drawn + masking::product::product_core(d, y, z, &tape[drawn..], output)
+    raise(logs, antilogs, Exponent::Sixteen, v, y);
+    let drawn = masking::product::product_core(logs, antilogs, d, y, w, tape, v);
+    drawn + masking::product::product_core(logs, antilogs, d, v, z, &tape[drawn..], output)
 }
 
 // The three stages, with room for z, w, y and v.
 fn power_with(
+    logs: &Logs,
+    antilogs: &Antilogs,
     d: usize,
     x: &[u8],
     tape: &[u8],
@@ -101,17 +108,24 @@ fn power_with(
     v: &mut [u8],
     output: &mut [u8],
 ) -> usize
-    requires { ⌜ (d ≤ 8) × (length (now x) ≡ d + 1) × (length (now z) ≡ d + 1) × (length (now w) ≡ d + 1) × (length (now y) ≡ d + 1) × (length (now v) ≡ d + 1) × (length (now output) ≡ d + 1) × (Box.box-need d ≤ length (now tape)) ⌝ }
+    requires { ⌜ (d ≤ 8) × (length (now x) ≡ d + 1) × (length (now z) ≡ d + 1) × (length (now w) ≡ d + 1) × (length (now y) ≡ d + 1) × (length (now v) ≡ d + 1) × (length (now output) ≡ d + 1) × (Box.box-need d ≤ length (now tape)) × Tables (now logs) (now antilogs) ⌝ }
     ensures { λ r. ⌜ (r ≡ Box.box-need d) × (now (output .exit) ≡ Box.power-254 d (now (x .entry)) (now (tape .entry))) ⌝ }
 {
-    let first = first_stage(d, x, tape, z, y);
-    let second = first + second_stage(d, y, &tape[first..], w, v);
-    second + last_stage(d, v, w, z, &tape[second..], y, output)
+    let first = first_stage(logs, antilogs, d, x, tape, z, y);
+    let second = first + second_stage(logs, antilogs, d, y, &tape[first..], w, v);
+    second + last_stage(logs, antilogs, d, v, w, z, &tape[second..], y, output)
 }
 
 // Power 254 of the shares of a byte. Answers with how many bytes were drawn.
-pub fn power_core(d: usize, x: &[u8], tape: &[u8], output: &mut [u8]) -> usize
-    requires { ⌜ (d ≤ 8) × (length (now x) ≡ d + 1) × (length (now output) ≡ d + 1) × (Box.box-need d ≤ length (now tape)) ⌝ }
+pub fn power_core(
+    logs: &Logs,
+    antilogs: &Antilogs,
+    d: usize,
+    x: &[u8],
+    tape: &[u8],
+    output: &mut [u8],
+) -> usize
+    requires { ⌜ (d ≤ 8) × (length (now x) ≡ d + 1) × (length (now output) ≡ d + 1) × (Box.box-need d ≤ length (now tape)) × Tables (now logs) (now antilogs) ⌝ }
     ensures { λ r. ⌜ (r ≡ Box.box-need d) × (now (output .exit) ≡ Box.power-254 d (now (x .entry)) (now (tape .entry))) ⌝ }
 {
     let mut z = [0u8; 9];
@@ -120,6 +134,8 @@ pub fn power_core(d: usize, x: &[u8], tape: &[u8], output: &mut [u8]) -> usize
     let mut v = [0u8; 9];
     let n = d + 1;
     power_with(
+        logs,
+        antilogs,
         d,
         x,
         tape,

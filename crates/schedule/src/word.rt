@@ -5,11 +5,14 @@ ghost use Prim.Native.Nat.{suc, _+_, _*_, _-_, _/_, _≤_};
 ghost use lib.ListN.{length, take, drop};
 ghost use Rattle.xor.specs.Sums.{xors};
 ghost use Rattle.gf256.specs.Field.{power};
+ghost use Rattle.gf256.specs.Tables.{Tables};
 ghost use Rattle.shares.specs.Strings.{parts, laid};
 ghost use Rattle.cipher.specs.Fips197.{Kind, kind, word};
 ghost use Rattle.cipher.specs.States.{each-by};
 ghost use Rattle.cipher.specs.Cipher.{subs-need, in-word, words, masked-temp, temp-need};
 ghost use Rattle.schedule.specs.Stored.{stored, word-stored, Word-fits};
+use gf256::Antilogs;
+use gf256::Logs;
 
 // The first byte of Rcon[j]: 02 to the power j - 1.
 fn rcon(j: usize) -> u8
@@ -62,11 +65,20 @@ fn store_all(nk: usize, d: usize, m: usize, i: usize, t: &[u8], keys: &mut [u8])
 }
 
 // The temporary word where i is a multiple of nk: S-boxes, RotWord, and Rcon into share 0. Answers with how many bytes were drawn.
-fn turned_temp(d: usize, j: usize, tape: &[u8], x: &mut [u8], y: &mut [u8], t: &mut [u8]) -> usize
-    requires { ⌜ (d ≤ 8) × (1 ≤ j) × (length (now t) ≡ suc d * 4) × (length (now x) ≡ suc d) × (length (now y) ≡ suc d) × (subs-need d in-word ≤ length (now tape)) ⌝ }
+fn turned_temp(
+    logs: &Logs,
+    antilogs: &Antilogs,
+    d: usize,
+    j: usize,
+    tape: &[u8],
+    x: &mut [u8],
+    y: &mut [u8],
+    t: &mut [u8],
+) -> usize
+    requires { ⌜ (d ≤ 8) × (1 ≤ j) × (length (now t) ≡ suc d * 4) × (length (now x) ≡ suc d) × (length (now y) ≡ suc d) × (subs-need d in-word ≤ length (now tape)) × Tables (now logs) (now antilogs) ⌝ }
     ensures { λ r. ⌜ (r ≡ subs-need d in-word) × (now (t .exit) ≡ laid (masked-temp d Kind.turned j (parts (suc d) 4 (now (t .entry))) (now (tape .entry)))) ⌝ }
 {
-    let drawn = state::substitution::sub_word(d, tape, x, y, t);
+    let drawn = state::substitution::sub_word(logs, antilogs, d, tape, x, y, t);
     state::linear::rot_all(d, t);
     t[0] = t[0] ^ rcon(j);
     drawn
@@ -74,6 +86,8 @@ fn turned_temp(d: usize, j: usize, tape: &[u8], x: &mut [u8], y: &mut [u8], t: &
 
 // The temporary word as word i wants it. Answers with how many bytes were drawn.
 fn make_temp(
+    logs: &Logs,
+    antilogs: &Antilogs,
     nk: usize,
     d: usize,
     i: usize,
@@ -82,16 +96,16 @@ fn make_temp(
     y: &mut [u8],
     t: &mut [u8],
 ) -> usize
-    requires { ⌜ (d ≤ 8) × (1 ≤ nk) × (nk ≤ i) × (length (now t) ≡ suc d * 4) × (length (now x) ≡ suc d) × (length (now y) ≡ suc d) × (temp-need d (kind nk i) ≤ length (now tape)) ⌝ }
+    requires { ⌜ (d ≤ 8) × (1 ≤ nk) × (nk ≤ i) × (length (now t) ≡ suc d * 4) × (length (now x) ≡ suc d) × (length (now y) ≡ suc d) × (temp-need d (kind nk i) ≤ length (now tape)) × Tables (now logs) (now antilogs) ⌝ }
     ensures { λ r. ⌜ (r ≡ temp-need d (kind nk i)) × (now (t .exit) ≡ laid (masked-temp d (kind nk i) (i / nk) (parts (suc d) 4 (now (t .entry))) (now (tape .entry)))) ⌝ }
 {
     let left = i % nk;
     if left == 0 {
-        return turned_temp(d, i / nk, tape, x, y, t);
+        return turned_temp(logs, antilogs, d, i / nk, tape, x, y, t);
     }
     if nk > 6 {
         if left == 4 {
-            return state::substitution::sub_word(d, tape, x, y, t);
+            return state::substitution::sub_word(logs, antilogs, d, tape, x, y, t);
         }
     }
     0
@@ -99,6 +113,8 @@ fn make_temp(
 
 // Word i in all shares. Answers with how many bytes were drawn.
 pub fn next_word(
+    logs: &Logs,
+    antilogs: &Antilogs,
     nk: usize,
     d: usize,
     m: usize,
@@ -109,11 +125,11 @@ pub fn next_word(
     t: &mut [u8],
     keys: &mut [u8],
 ) -> usize
-    requires { ⌜ Word-fits nk d m i (now keys) (now tape) (now x) (now y) (now t) ⌝ }
+    requires { ⌜ Word-fits nk d m i (now keys) (now tape) (now x) (now y) (now t) × Tables (now logs) (now antilogs) ⌝ }
     ensures { λ r. ⌜ (r ≡ temp-need d (kind nk i)) × (now (keys .exit) ≡ word-stored nk d m i (now (keys .entry)) (now (tape .entry))) ⌝ }
 {
     fetch(d, m, i - 1, keys, t);
-    let drawn = make_temp(nk, d, i, tape, x, y, t);
+    let drawn = make_temp(logs, antilogs, nk, d, i, tape, x, y, t);
     store_all(nk, d, m, i, t, keys);
     drawn
 }

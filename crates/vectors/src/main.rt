@@ -1,11 +1,12 @@
-// Runs the masked AES in both directions on values known from elsewhere and compares: document 01's small values that no theorem covers, the
-// published examples of FIPS 197, and on standard input the lines that an unrelated AES made (make-stdin). Prints what was computed, line by line.
+// Runs the masked AES in both directions on values known from elsewhere and compares: document 01's small values that no theorem covers, the field's two
+// products on all bytes, the published examples of FIPS 197, and on standard input the lines that an unrelated AES made (make-stdin). Prints what was computed, line by line.
 mod answers;
 mod counts;
 mod examples;
 mod expansions;
 mod lines;
 mod outside;
+mod products;
 mod published;
 mod round_keys;
 mod routes;
@@ -25,7 +26,8 @@ fn main() {
         different: 0,
     };
     let small = values::compare(start);
-    let expanded = expansions::compare(&mut tape, small);
+    let multiplied = products::compare(small);
+    let expanded = expansions::compare(&mut tape, multiplied);
     let known = published::compare(&mut tape, expanded);
     let all = outside::compare(&input[..n], &mut tape, known);
     counts::print(all);

@@ -38,7 +38,7 @@ returns c =
     let a = c .before .before .before .before .before .before .before .before .before .before .before .before .before .before .before .before .before .before .before .before .before .before .before .before .args in
     let p = parts (suc (a .d)) 16 (now (a .s)) in
     let ks = parts (suc (a .d)) (a .m) (now (a .keys)) in
-    let shape = shifted-shared (a .which) (now (a .tape)) (state-shape (a .d) (now (a .s)) (c .before .before .before .before .before .before .before .before .before .before .before .before .before .before .before .before .before .before .before .before .before .before .before .before .pre .s-long)) in
+    let shape = shifted-shared (a .which) (now (a .tape)) (state-shape (a .d) (now (a .s)) (c .before .before .before .before .before .before .before .before .before .before .before .before .before .before .before .before .before .before .before .before .before .before .before .before .pre .0 .s-long)) in
     let first = c .before .before .before .before .before .before .before .before .before .before .before .before .before .sub-and-shift .ensures in
     let made = two-steps (a .d) (λ p. shifted-of (a .which) (a .d) p (now (a .tape))) (λ p. adds p (round-keys ks (a .r))) _ _ _ shape (first .1) (c .before .before .add-key .ensures) in
     (first .0, made ∙ ap laid (last-steps (a .which) (a .d) (a .r) ks p (now (a .tape))) ∙ sym (ap (λ (l : Bool). laid (round-of (a .which) l (a .d) (a .r) ks p (now (a .tape)))) (c .before .before .before .before .if1 .taken)))
@@ -60,7 +60,7 @@ returns-2 c =
     let a = c .before .before .before .before .before .before .before .before .before .before .before .before .before .before .before .before .before .before .before .before .before .before .before .before .before .before .before .args in
     let p = parts (suc (a .d)) 16 (now (a .s)) in
     let ks = parts (suc (a .d)) (a .m) (now (a .keys)) in
-    let shape = shifted-shared (a .which) (now (a .tape)) (state-shape (a .d) (now (a .s)) (c .before .before .before .before .before .before .before .before .before .before .before .before .before .before .before .before .before .before .before .before .before .before .before .before .before .before .before .pre .s-long)) in
+    let shape = shifted-shared (a .which) (now (a .tape)) (state-shape (a .d) (now (a .s)) (c .before .before .before .before .before .before .before .before .before .before .before .before .before .before .before .before .before .before .before .before .before .before .before .before .before .before .before .pre .0 .s-long)) in
     let first = c .before .before .before .before .before .before .before .before .before .before .before .before .before .before .before .before .sub-and-shift .ensures in
     let made = two-steps (a .d) (λ p. shifted-of (a .which) (a .d) p (now (a .tape))) (keyed-of (a .which) (a .r) ks) _ _ _ shape (first .1) (c .before .before .before .before .mix-and-add .ensures) in
     (first .0, made ∙ ap laid (round-steps (a .which) (a .d) (a .r) ks p (now (a .tape))) ∙ sym (ap (λ (l : Bool). laid (round-of (a .which) l (a .d) (a .r) ks p (now (a .tape)))) (c .before .before .before .before .before .before .before .if1 .left)))

@@ -32,7 +32,9 @@ step-all-requires-2 : tie.Need-step-all-requires-2
 step-all-requires-2 c κs = search needs
 
 sub-rows-requires-2 : tie.Need-sub-rows-requires-2
-sub-rows-requires-2 c κs = search needs
+sub-rows-requires-2 c κs =
+    let fit = c .before .before .before .before .before .before .before .before .before .before .before .before .before .before .before .before .before .pre in
+    (fit .0, search needs, fit .2, fit .3, fit .1, fit .6)
 
 same-length : tie.Need-same-length
 same-length c = search needs

@@ -45,7 +45,7 @@ rounds-with-requires c κs =
     let a = c .before .before .before .before .before .before .before .before .before .before .before .before .args in
     let fit = c .before .before .before .before .before .before .before .before .before .before .before .before .pre in
     let long : a .d + 1 ≤ 9 = omega arith in
-    (fit .0, fit .1, fit .2, c .before .before .before .before .before .before .put .kept .1 .0 ∙ fit .4, fit .5, length-part-first _ (a .d + 1) long ∙ add-one (a .d), length-part-first _ (a .d + 1) long ∙ add-one (a .d), refl)
+    (fit .0, fit .1, fit .2, c .before .before .before .before .before .before .put .kept .1 .0 ∙ fit .4, fit .5, length-part-first _ (a .d + 1) long ∙ add-one (a .d), length-part-first _ (a .d + 1) long ∙ add-one (a .d), refl, fit .6)
 
 same-length : tie.Need-same-length
 same-length c = search needs

@@ -41,6 +41,7 @@ run-rounds-requires c κs =
         t-long = fit .7;
         s-long = c .before .before .before .before .before .before .add-key .kept .1 .1 .1 .1 .0 ∙ fit .3;
       },
+      fit .8,
     )
 
 same-length : tie.Need-same-length

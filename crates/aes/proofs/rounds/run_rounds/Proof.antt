@@ -11,11 +11,11 @@ use Rattle.aes.proofs.rounds.run_rounds.Statement.{statement}
 use Rattle.aes.proofs.rounds.run_rounds.Tie as tie
 
 abbrev Inv-loop : tie.InvT-loop
-Inv-loop which nr d m keys tape x₀ y₀ t₀ s₀ at₀ i₀ i-end x y t s at i =
+Inv-loop logs antilogs which nr d m keys tape x₀ y₀ t₀ s₀ at₀ i₀ i-end x y t s at i =
     (1 ≤ i) × (i ≤ nr + 1) × (i-end ≡ nr + 1) × Rounding which d m nr keys tape s₀ i at s × (length x ≡ length x₀) × (length y ≡ length y₀) × (length t ≡ length t₀)
 
 abbrev μ-loop : tie.MeasureT-loop
-μ-loop which nr d m keys tape x₀ y₀ t₀ s₀ at₀ i₀ i-end x y t s at i = i-end - i
+μ-loop logs antilogs which nr d m keys tape x₀ y₀ t₀ s₀ at₀ i₀ i-end x y t s at i = i-end - i
 
 add-i-end : tie.Need-add-i-end Inv-loop μ-loop
 add-i-end c = search needs
@@ -41,17 +41,19 @@ make-round-requires c κs =
     let fit = c .before .before .before .before .before .before .before .before .before .before .before .before .before .before .pre .1 in
     let l = c .before .before .before .before .before .before .before .loop in
     let so-far = l .inv .3 in
-    let room = rounding-room (a .which) (a .d) (a .m) (a .nr) (now (a .keys)) (now (a .tape)) (now (a .s)) (l .i) (l .at) (l .s) so-far (omega (arith, l .inv)) in
-    record {
-      order = fit .order;
-      round = omega (arith, fit .round, c .before .before .before .before .before .key-number .ensures .1);
-      keyed = fit .keyed;
-      drawn = omega (arith, room, fit .drawn, length-part-rest (now (a .tape)) (l .at));
-      x-long = l .inv .4 ∙ fit .x-long;
-      y-long = l .inv .5 ∙ fit .y-long;
-      t-long = l .inv .6 ∙ fit .t-long;
-      s-long = so-far .long;
-    }
+    let room = rounding-room (a .which) (a .d) (a .m) (a .nr) (now (a .keys)) (now (a .tape)) (now (a .s)) (l .i) (l .at) (l .s) so-far (omega (arith, l .inv)) in (
+      record {
+        order = fit .order;
+        round = omega (arith, fit .round, c .before .before .before .before .before .key-number .ensures .1);
+        keyed = fit .keyed;
+        drawn = omega (arith, room, fit .drawn, length-part-rest (now (a .tape)) (l .at));
+        x-long = l .inv .4 ∙ fit .x-long;
+        y-long = l .inv .5 ∙ fit .y-long;
+        t-long = l .inv .6 ∙ fit .t-long;
+        s-long = so-far .long;
+      },
+      c .before .before .before .before .before .before .before .before .before .before .before .before .before .before .pre .2,
+    )
 
 add-at : tie.Need-add-at Inv-loop μ-loop
 add-at c =

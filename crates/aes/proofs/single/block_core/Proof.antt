@@ -24,7 +24,7 @@ block-with-requires c κs =
     let p = c .before .before .before .before .before .before .before .pre in
     let size = c .before .before .prepared-length in
     let room = length-part-first _ (size .result) (size .ensures .1) in
-    (p .0, p .1, p .2, p .3, p .4, room ∙ keys-long (a .nk) (a .d) _ (size .ensures .0), p .5, p .6)
+    (p .0, p .1, p .2, p .3, p .4, room ∙ keys-long (a .nk) (a .d) _ (size .ensures .0), p .5, p .6, p .7)
 
 same-length : tie.Need-same-length
 same-length c = search needs

@@ -17,7 +17,7 @@ expand-core-requires c κs =
     let a = c .before .before .before .before .before .before .args in
     let p = c .before .before .before .before .before .before .pre in
     let h : schedule-need (a .nk) (a .d) ≤ length (now (a .tape)) = omega (arith, p .7) in
-    (p .0, p .1, p .2, p .3, p .5, h)
+    (p .0, p .1, p .2, p .3, p .5, h, p .8)
 
 sub-rounds-core : tie.Need-sub-rounds-core
 unfolding cipher-need
@@ -37,7 +37,7 @@ rounds-core-requires c κs =
     let p = c .before .before .before .before .before .before .before .before .before .before .before .before .pre in
     let n = c .before .before .before .before .before .expand-core .result in
     let h : encrypted-with-need (a .nk) (a .d) ≤ length (take (length (now (a .tape)) - n) (drop n (now (a .tape)))) = omega (arith, length-part-rest (now (a .tape)) n, c .before .before .before .before .before .expand-core .ensures .0, p .7) in
-    (p .0, p .2, c .before .before .before .before .before .expand-core .kept .1 .1 .1 .1 .0 ∙ p .5, p .4, p .6, h)
+    (p .0, p .2, c .before .before .before .before .before .expand-core .kept .1 .1 .1 .1 .1 .1 .0 ∙ p .5, p .4, p .6, h, p .8)
 
 add-result : tie.Need-add-result
 unfolding cipher-need

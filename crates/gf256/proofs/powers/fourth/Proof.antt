@@ -1,14 +1,15 @@
 -- `gf256::powers::fourth` meets its contract. Assumes nothing.
+use borrow.Author.Needs.{needs}
 use mathlib.Core.Path.{ap, _∙_}
 use Rattle.gf256.specs.Field.{fourth, squared}
 use Rattle.gf256.proofs.powers.fourth.Statement.{statement}
 use Rattle.gf256.proofs.powers.fourth.Tie as tie
 
 squared-requires : tie.Need-squared-requires
-squared-requires c κs = tt
+squared-requires c κs = search needs
 
 squared-requires-2 : tie.Need-squared-requires-2
-squared-requires-2 c κs = tt
+squared-requires-2 c κs = search needs
 
 returns : tie.Need-returns
 unfolding fourth

@@ -3,6 +3,7 @@ use mathlib.Core.Path.{sym, _∙_}
 use native.Mathlib.Omega.{arith}
 use borrow.Author.Tests.{eqb-true}
 use borrow.Author.Needs.{needs}
+use Rattle.gf256.specs.Tables.{lent}
 use Rattle.shares.proofs.OutcomeLaws.{served-bounds, guarded-unserved, guarded-refused, guarded-done}
 use Rattle.masking.specs.Calls.{Product-outcome}
 use Rattle.masking.proofs.CallsLaws.{product-checked, product-taken}
@@ -40,13 +41,19 @@ returns-2 c =
     let e = product-checked _ _ _ _ _ _ (c .before .before .before .before .two-fit .ensures) (c .before .before .before .product-need .ensures) (c .before .before .checked .ensures) in
     guarded-refused _ _ _ _ _ _ _ _ (sym (c .before .before .before .before .before .before .unserved .ensures) ∙ c .before .before .before .before .before .if1 .left) _ e _ (c .enum-told2 .given .1)
 
+logs-requires : tie.Need-logs-requires
+logs-requires c κs = search needs
+
+antilogs-requires : tie.Need-antilogs-requires
+antilogs-requires c κs = search needs
+
 product-core-requires : tie.Need-product-core-requires
 product-core-requires c κs =
-    let v = c .before .before .before .before .before .before .before .before .before .before .before .before .args in
-    let b = served-bounds (v .order) (sym (c .before .before .before .before .before .before .before .unserved .ensures) ∙ c .before .before .before .before .before .before .if1 .left) in
-    let e = product-checked _ _ _ _ _ _ (c .before .before .before .before .before .two-fit .ensures) (c .before .before .before .before .product-need .ensures) (c .before .before .before .checked .ensures) in
-    let k = product-taken _ _ _ _ _ _ _ e (c .before .enum-told .given .1) in
-    (b .1, eqb-true _ _ (k .2), k .0, k .1, k .3)
+    let v = c .before .before .before .before .before .before .before .before .before .before .before .before .before .before .before .before .args in
+    let b = served-bounds (v .order) (sym (c .before .before .before .before .before .before .before .before .before .before .before .unserved .ensures) ∙ c .before .before .before .before .before .before .before .before .before .before .if1 .left) in
+    let e = product-checked _ _ _ _ _ _ (c .before .before .before .before .before .before .before .before .before .two-fit .ensures) (c .before .before .before .before .before .before .before .before .product-need .ensures) (c .before .before .before .before .before .before .before .checked .ensures) in
+    let k = product-taken _ _ _ _ _ _ _ e (c .before .before .before .before .before .enum-told .given .1) in
+    (b .1, eqb-true _ _ (k .2), k .0, k .1, k .3, lent (c .before .before .before .before .logs .ensures) (c .before .before .before .antilogs .ensures))
 
 same-length : tie.Need-same-length
 same-length c = search needs
@@ -54,9 +61,9 @@ same-length c = search needs
 returns-3 : tie.Need-returns-3
 unfolding Product-outcome
 returns-3 c =
-    let e = product-checked _ _ _ _ _ _ (c .before .before .before .before .before .before .before .before .two-fit .ensures) (c .before .before .before .before .before .before .before .product-need .ensures) (c .before .before .before .before .before .before .checked .ensures) in
-    let k = product-taken _ _ _ _ _ _ _ e (c .before .before .before .before .enum-told .given .1) in
-    guarded-done _ _ _ _ _ _ _ _ (sym (c .before .before .before .before .before .before .before .before .before .before .unserved .ensures) ∙ c .before .before .before .before .before .before .before .before .before .if1 .left) _ e _ _ _ (c .before .before .before .before .enum-told .given .1)
+    let e = product-checked _ _ _ _ _ _ (c .before .before .before .before .before .before .before .before .before .before .before .before .two-fit .ensures) (c .before .before .before .before .before .before .before .before .before .before .before .product-need .ensures) (c .before .before .before .before .before .before .before .before .before .before .checked .ensures) in
+    let k = product-taken _ _ _ _ _ _ _ e (c .before .before .before .before .before .before .before .before .enum-told .given .1) in
+    guarded-done _ _ _ _ _ _ _ _ (sym (c .before .before .before .before .before .before .before .before .before .before .before .before .before .before .unserved .ensures) ∙ c .before .before .before .before .before .before .before .before .before .before .before .before .before .if1 .left) _ e _ _ _ (c .before .before .before .before .before .before .before .before .enum-told .given .1)
     (c .before .before .product-core .ensures .0 ∙ sym (k .4)) (c .before .before .product-core .ensures .1)
 
 pub masked-product-spec : {M : Type 1} → statement M
@@ -72,6 +79,8 @@ masked-product-spec =
     enum-told
     enum-told-2
     returns-2
+    logs-requires
+    antilogs-requires
     product-core-requires
     same-length
     returns-3)

@@ -3,6 +3,7 @@ use mathlib.Core.Path.{sym, _∙_}
 use borrow.Author.Tests.{eqb-true}
 use borrow.Author.Needs.{needs}
 use denote.Ref.{now}
+use Rattle.gf256.specs.Tables.{lent}
 use Rattle.shares.proofs.OutcomeLaws.{served-bounds, guarded-unserved, guarded-refused, guarded-done}
 use Rattle.masking.proofs.ReadingLaws.{sheet-checked}
 use Rattle.masking.specs.Calls.{Sheet-outcome}
@@ -42,12 +43,18 @@ returns-2 c =
     let e = sheet-checked (v .order) (now (v .left)) (now (v .right)) _ _ _ (c .before .before .before .before .before .two-fit .ensures) (c .before .before .before .before .place-count .ensures .0) (c .before .before .before .product-need .ensures) (c .before .before .checked .ensures) in
     guarded-refused _ _ _ _ _ _ _ _ (sym (c .before .before .before .before .before .before .before .unserved .ensures) ∙ c .before .before .before .before .before .before .if1 .left) _ e _ (c .enum-told2 .given .1)
 
+logs-requires : tie.Need-logs-requires
+logs-requires c κs = search needs
+
+antilogs-requires : tie.Need-antilogs-requires
+antilogs-requires c κs = search needs
+
 sheet-core-requires : tie.Need-sheet-core-requires
 sheet-core-requires c κs =
-    let v = c .before .before .before .before .before .before .before .before .before .before .before .before .before .args in
-    let e = sheet-checked (v .order) (now (v .left)) (now (v .right)) _ _ _ (c .before .before .before .before .before .before .two-fit .ensures) (c .before .before .before .before .before .place-count .ensures .0) (c .before .before .before .before .product-need .ensures) (c .before .before .before .checked .ensures) in
-    let k = product-taken (v .order) (now (v .left)) (now (v .right)) _ _ _ _ e (c .before .enum-told .given .1) in
-    (served-bounds (v .order) (sym (c .before .before .before .before .before .before .before .before .unserved .ensures) ∙ c .before .before .before .before .before .before .before .if1 .left) .1, k .0, k .1, k .3, eqb-true _ _ (k .2))
+    let v = c .before .before .before .before .before .before .before .before .before .before .before .before .before .before .before .before .before .args in
+    let e = sheet-checked (v .order) (now (v .left)) (now (v .right)) _ _ _ (c .before .before .before .before .before .before .before .before .before .before .two-fit .ensures) (c .before .before .before .before .before .before .before .before .before .place-count .ensures .0) (c .before .before .before .before .before .before .before .before .product-need .ensures) (c .before .before .before .before .before .before .before .checked .ensures) in
+    let k = product-taken (v .order) (now (v .left)) (now (v .right)) _ _ _ _ e (c .before .before .before .before .before .enum-told .given .1) in
+    (served-bounds (v .order) (sym (c .before .before .before .before .before .before .before .before .before .before .before .before .unserved .ensures) ∙ c .before .before .before .before .before .before .before .before .before .before .before .if1 .left) .1, k .0, k .1, k .3, eqb-true _ _ (k .2), lent (c .before .before .before .before .logs .ensures) (c .before .before .before .antilogs .ensures))
 
 same-length : tie.Need-same-length
 same-length c = search needs
@@ -55,10 +62,10 @@ same-length c = search needs
 returns-3 : tie.Need-returns-3
 unfolding Sheet-outcome
 returns-3 c =
-    let v = c .before .before .before .before .before .before .before .before .before .before .before .before .before .before .before .before .args in
-    let e = sheet-checked (v .order) (now (v .left)) (now (v .right)) _ _ _ (c .before .before .before .before .before .before .before .before .before .two-fit .ensures) (c .before .before .before .before .before .before .before .before .place-count .ensures .0) (c .before .before .before .before .before .before .before .product-need .ensures) (c .before .before .before .before .before .before .checked .ensures) in
-    let k = product-taken (v .order) (now (v .left)) (now (v .right)) _ _ _ _ e (c .before .before .before .before .enum-told .given .1) in
-    guarded-done _ _ _ _ _ _ _ _ (sym (c .before .before .before .before .before .before .before .before .before .before .before .unserved .ensures) ∙ c .before .before .before .before .before .before .before .before .before .before .if1 .left) _ e _ _ _ (c .before .before .before .before .enum-told .given .1)
+    let v = c .before .before .before .before .before .before .before .before .before .before .before .before .before .before .before .before .before .before .before .before .args in
+    let e = sheet-checked (v .order) (now (v .left)) (now (v .right)) _ _ _ (c .before .before .before .before .before .before .before .before .before .before .before .before .before .two-fit .ensures) (c .before .before .before .before .before .before .before .before .before .before .before .before .place-count .ensures .0) (c .before .before .before .before .before .before .before .before .before .before .before .product-need .ensures) (c .before .before .before .before .before .before .before .before .before .before .checked .ensures) in
+    let k = product-taken (v .order) (now (v .left)) (now (v .right)) _ _ _ _ e (c .before .before .before .before .before .before .before .before .enum-told .given .1) in
+    guarded-done _ _ _ _ _ _ _ _ (sym (c .before .before .before .before .before .before .before .before .before .before .before .before .before .before .before .unserved .ensures) ∙ c .before .before .before .before .before .before .before .before .before .before .before .before .before .before .if1 .left) _ e _ _ _ (c .before .before .before .before .before .before .before .before .enum-told .given .1)
     (c .before .before .sheet-core .ensures .0 ∙ sym (k .4)) (c .before .before .sheet-core .ensures .1)
 
 pub product-sheet-spec : {M : Type 1} → statement M
@@ -74,6 +81,8 @@ product-sheet-spec =
     enum-told
     enum-told-2
     returns-2
+    logs-requires
+    antilogs-requires
     sheet-core-requires
     same-length
     returns-3)

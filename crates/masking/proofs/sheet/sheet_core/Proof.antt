@@ -1,12 +1,22 @@
 -- `masking::sheet::sheet_core` meets its contract. Assumes nothing.
 use mathlib.Core.Path.{sym, _∙_}
+use Prim.Native.Nat.{ℕ, suc, _≤_}
+use native.Mathlib.Nat.{mul-le-mul}
 use native.Mathlib.Omega.{arith}
 use borrow.Author.Needs.{needs}
 use denote.Ref.{now}
+use Rattle.isw.specs.Place.{product-need}
+use Rattle.isw.proofs.OrderLaws.{twice-need}
 use Rattle.masking.proofs.TermsLaws.{product-need-rows}
 use Rattle.masking.proofs.SheetParts.{place-count-rows, sheet-written}
 use Rattle.masking.proofs.sheet.sheet_core.Statement.{statement}
 use Rattle.masking.proofs.sheet.sheet_core.Tie as tie
+
+-- 36 bytes at the most
+few-drawn : (d : ℕ) → d ≤ 8 → product-need d ≤ 36
+few-drawn d h =
+    let n : suc d ≤ 9 = omega arith in
+    omega (arith, twice-need d, mul-le-mul h n)
 
 add-n : tie.Need-add-n
 add-n c = search needs
@@ -15,7 +25,9 @@ slice-aggregate-fill-terms : tie.Need-slice-aggregate-fill-terms
 slice-aggregate-fill-terms c = search needs
 
 fill-terms-requires : tie.Need-fill-terms-requires
-fill-terms-requires c κs = omega (arith, product-need-rows (c .before .before .before .before .before .args .d))
+fill-terms-requires c κs =
+    let e = product-need-rows (c .before .before .before .before .before .args .d) in
+    (omega arith, omega arith, omega arith, omega arith, omega (arith, e), search needs)
 
 put-requires : tie.Need-put-requires
 put-requires c κs = omega (arith, place-count-rows (c .before .before .before .before .before .before .before .before .args .d))
@@ -45,13 +57,21 @@ part-sheet-rows-end : tie.Need-part-sheet-rows-end
 part-sheet-rows-end c = search needs
 
 sheet-rows-requires : tie.Need-sheet-rows-requires
-sheet-rows-requires c κs = omega (arith, place-count-rows (c .before .before .before .before .before .before .before .before .before .before .before .before .before .before .before .before .args .d), product-need-rows (c .before .before .before .before .before .before .before .before .before .before .before .before .before .before .before .before .args .d))
+sheet-rows-requires c κs =
+    let s = c .before .before .before .before .before .before .before .before .before .before .before .before .before .before .before .before in
+    let e = place-count-rows (s .args .d) in
+    let f = product-need-rows (s .args .d) in
+    (omega arith, omega arith, omega arith, omega (arith, f), omega (arith, e), s .pre .5)
 
 mul-sums : tie.Need-mul-sums
-mul-sums c = omega (arith, place-count-rows (c .before .before .before .before .before .before .before .before .before .before .before .before .before .before .before .before .before .before .before .args .d))
+mul-sums c =
+    let s = c .before .before .before .before .before .before .before .before .before .before .before .before .before .before .before .before .before .before .before in
+    omega (arith, few-drawn (s .args .d) (s .pre .0), product-need-rows (s .args .d), c .before .before .before .before .before .before .before .before .before .before .before .before .before .fill-terms .ensures .0, s .pre .0)
 
 add-sums : tie.Need-add-sums
-add-sums c = omega (arith, place-count-rows (c .before .before .before .before .before .before .before .before .before .before .before .before .before .before .before .before .before .before .before .args .d))
+add-sums c =
+    let s = c .before .before .before .before .before .before .before .before .before .before .before .before .before .before .before .before .before .before .before in
+    omega (arith, few-drawn (s .args .d) (s .pre .0), product-need-rows (s .args .d), c .before .before .before .before .before .before .before .before .before .before .before .before .before .fill-terms .ensures .0, s .pre .0)
 
 slice-aggregate-sheet-runs : tie.Need-slice-aggregate-sheet-runs
 slice-aggregate-sheet-runs c = search needs
@@ -66,7 +86,10 @@ part-sheet-runs-end : tie.Need-part-sheet-runs-end
 part-sheet-runs-end c = search needs
 
 sheet-runs-requires : tie.Need-sheet-runs-requires
-sheet-runs-requires c κs = omega (arith, place-count-rows (c .before .before .before .before .before .before .before .before .before .before .before .before .before .before .before .before .before .before .before .before .before .args .d))
+sheet-runs-requires c κs =
+    let s = c .before .before .before .before .before .before .before .before .before .before .before .before .before .before .before .before .before .before .before .before .before in
+    let e = place-count-rows (s .args .d) in
+    (omega arith, omega arith, omega arith, omega arith, omega (arith, e), s .pre .5)
 
 same-length : tie.Need-same-length
 same-length c = search needs

@@ -14,10 +14,10 @@ use Rattle.masking.proofs.sheet.sheet_row.Statement.{statement}
 use Rattle.masking.proofs.sheet.sheet_row.Tie as tie
 
 abbrev Inv-loop : tie.InvT-loop
-Inv-loop i w a b tape out₀ m₀ out m = (m ≤ w) × (out ≡ front (row-bytes a b tape i m) out₀) × (length out ≡ length out₀)
+Inv-loop logs antilogs i w a b tape out₀ m₀ out m = (m ≤ w) × (out ≡ front (row-bytes a b tape i m) out₀) × (length out ≡ length out₀)
 
 abbrev μ-loop : tie.MeasureT-loop
-μ-loop i w a b tape out₀ m₀ out m = w - m
+μ-loop logs antilogs i w a b tape out₀ m₀ out m = w - m
 
 loop-holds : tie.Need-loop-holds Inv-loop μ-loop
 unfolding row-bytes front runs

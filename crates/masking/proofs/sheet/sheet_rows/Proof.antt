@@ -15,11 +15,11 @@ use Rattle.masking.proofs.sheet.sheet_rows.Statement.{statement}
 use Rattle.masking.proofs.sheet.sheet_rows.Tie as tie
 
 abbrev Inv-loop : tie.InvT-loop
-Inv-loop n a b tape out₀ drawn₀ i₀ out drawn i =
+Inv-loop logs antilogs n a b tape out₀ drawn₀ i₀ out drawn i =
     (i ≤ n) × (drawn ≡ before-row n i) × (before-row n i ≤ before-row n n) × (out ≡ front (pairs-before n a b tape i) out₀) × (length out ≡ length out₀)
 
 abbrev μ-loop : tie.MeasureT-loop
-μ-loop n a b tape out₀ drawn₀ i₀ out drawn i = n - i
+μ-loop logs antilogs n a b tape out₀ drawn₀ i₀ out drawn i = n - i
 
 loop-holds : tie.Need-loop-holds Inv-loop μ-loop
 unfolding front before-row runs
@@ -60,7 +60,7 @@ sheet-row-requires c κs =
     let u = before-row-le (s .n) (l .i) (omega arith) in
     let w : s .n - (l .i + 1) ≤ length (take (length (now (s .tape)) - l .drawn) (drop (l .drawn) (now (s .tape)))) = rw (length-part-rest (now (s .tape)) (l .drawn)) (omega arith) in
     let o : 5 * (s .n - (l .i + 1)) ≤ length (take (length (l .out) - 5 * l .drawn) (drop (5 * l .drawn) (l .out))) = rw (length-part-rest (l .out) (5 * l .drawn)) (omega arith) in
-    (omega arith, omega arith, omega arith, w, o)
+    (omega arith, omega arith, omega arith, w, o, search needs)
 
 add-drawn : tie.Need-add-drawn Inv-loop μ-loop
 add-drawn c = omega (arith, before-row-next (c .before .before .before .before .before .before .before .before .before .before .before .args .n) (c .before .before .before .before .before .before .loop .i), before-row-le (c .before .before .before .before .before .before .before .before .before .before .before .args .n) (c .before .before .before .before .before .before .loop .i) (omega arith))

@@ -18,11 +18,11 @@ use Rattle.masking.proofs.sheet.sheet_runs.Statement.{statement}
 use Rattle.masking.proofs.sheet.sheet_runs.Tie as tie
 
 abbrev Inv-loop : tie.InvT-loop
-Inv-loop d a b table out₀ n at₀ i₀ out at i =
+Inv-loop logs antilogs d a b table out₀ n at₀ i₀ out at i =
     (i ≤ n) × (n ≡ d + 1) × (at ≡ i * n) × ((ts : List ℕ) → Terms (d + 1) a b ts table → out ≡ front (sums-before (d + 1) a b ts i) out₀) × (length out ≡ length out₀)
 
 abbrev μ-loop : tie.MeasureT-loop
-μ-loop d a b table out₀ n at₀ i₀ out at i = n - i
+μ-loop logs antilogs d a b table out₀ n at₀ i₀ out at i = n - i
 
 add-n : tie.Need-add-n Inv-loop μ-loop
 add-n c = search needs
@@ -31,14 +31,14 @@ loop-holds : tie.Need-loop-holds Inv-loop μ-loop
 unfolding front runs
 loop-holds c = (search needs, refl, sym (zero-mul _), (λ ts t. refl), refl)
 
-shared-slice-read-times : tie.Need-shared-slice-read-times Inv-loop μ-loop
-shared-slice-read-times c = search needs
+shared-slice-read-table-times : tie.Need-shared-slice-read-table-times Inv-loop μ-loop
+shared-slice-read-table-times c = search needs
 
-shared-slice-read-times-2 : tie.Need-shared-slice-read-times-2 Inv-loop μ-loop
-shared-slice-read-times-2 c = search needs
+shared-slice-read-table-times-2 : tie.Need-shared-slice-read-table-times-2 Inv-loop μ-loop
+shared-slice-read-table-times-2 c = search needs
 
-times-requires : tie.Need-times-requires Inv-loop μ-loop
-times-requires c κs = search needs
+table-times-requires : tie.Need-table-times-requires Inv-loop μ-loop
+table-times-requires c κs = search needs
 
 sub-sheet-run : tie.Need-sub-sheet-run Inv-loop μ-loop
 sub-sheet-run c = omega (arith, rows-room (c .before .before .before .before .loop .i) (c .before .before .before .before .before .before .before .before .before .args .d + 1) (omega arith))
@@ -75,7 +75,7 @@ loop-again c =
       search needs,
       omega arith,
       (λ ts t. front-part _ _ _ _ _ _ _ (l .inv .3 ts t) (length-sums n a b ts (l .i) ∙ omega arith) (rw length-tab (omega arith)) (c .before .before .sheet-run .ensures)
-          (sums-more n a b ts (now (s .table)) (l .i) (c .before .before .before .before .times .result) t (omega arith) (c .before .before .before .before .times .ensures))),
+          (sums-more n a b ts (now (s .table)) (l .i) (c .before .before .before .before .table-times .result) t (omega arith) (c .before .before .before .before .table-times .ensures))),
       c .before .out .given .1 ∙ l .inv .4,
     )
 
@@ -93,9 +93,9 @@ sheet-runs-spec =
     μ-loop
     add-n
     loop-holds
-    shared-slice-read-times
-    shared-slice-read-times-2
-    times-requires
+    shared-slice-read-table-times
+    shared-slice-read-table-times-2
+    table-times-requires
     sub-sheet-run
     part-sheet-run-start
     part-sheet-run-end

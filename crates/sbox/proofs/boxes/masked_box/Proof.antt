@@ -3,6 +3,7 @@ use mathlib.Core.Path.{sym, _∙_}
 use native.Mathlib.Omega.{arith}
 use borrow.Author.Needs.{needs}
 use denote.Ref.{now}
+use Rattle.gf256.specs.Tables.{lent}
 use Rattle.shares.proofs.OutcomeLaws.{served-bounds, guarded-unserved, guarded-refused, guarded-done}
 use Rattle.sbox.specs.Calls.{Box-outcome}
 use Rattle.sbox.proofs.CallsLaws.{box-checked, box-taken}
@@ -38,13 +39,19 @@ returns-2 c =
     let e = box-checked (s .order) (now (s .input)) (now (s .tape)) (now (s .output)) _ _ (c .before .before .before .box-need .ensures) (c .before .before .checked .ensures) in
     guarded-refused _ _ _ _ _ _ _ _ (sym (c .before .before .before .before .before .unserved .ensures) ∙ c .before .before .before .before .if1 .left) _ e _ (c .enum-told2 .given .1)
 
+logs-requires : tie.Need-logs-requires
+logs-requires c κs = search needs
+
+antilogs-requires : tie.Need-antilogs-requires
+antilogs-requires c κs = search needs
+
 box-core-requires : tie.Need-box-core-requires
 box-core-requires c κs =
-    let s = c .before .before .before .before .before .before .before .before .before .before .args in
-    let b = served-bounds (s .order) (sym (c .before .before .before .before .before .before .unserved .ensures) ∙ c .before .before .before .before .before .if1 .left) in
-    let e = box-checked (s .order) (now (s .input)) (now (s .tape)) (now (s .output)) _ _ (c .before .before .before .before .box-need .ensures) (c .before .before .before .checked .ensures) in
-    let k = box-taken (s .order) (now (s .input)) (now (s .tape)) (now (s .output)) _ _ e (c .before .enum-told .given .1) in
-    (b .1, k .0, k .1, k .2)
+    let s = c .before .before .before .before .before .before .before .before .before .before .before .before .before .before .args in
+    let b = served-bounds (s .order) (sym (c .before .before .before .before .before .before .before .before .before .before .unserved .ensures) ∙ c .before .before .before .before .before .before .before .before .before .if1 .left) in
+    let e = box-checked (s .order) (now (s .input)) (now (s .tape)) (now (s .output)) _ _ (c .before .before .before .before .before .before .before .before .box-need .ensures) (c .before .before .before .before .before .before .before .checked .ensures) in
+    let k = box-taken (s .order) (now (s .input)) (now (s .tape)) (now (s .output)) _ _ e (c .before .before .before .before .before .enum-told .given .1) in
+    (b .1, k .0, k .1, k .2, lent (c .before .before .before .before .logs .ensures) (c .before .before .before .antilogs .ensures))
 
 same-length : tie.Need-same-length
 same-length c = search needs
@@ -52,11 +59,11 @@ same-length c = search needs
 returns-3 : tie.Need-returns-3
 unfolding Box-outcome
 returns-3 c =
-    let s = c .before .before .before .before .before .before .before .before .before .before .before .before .before .args in
-    let e = box-checked (s .order) (now (s .input)) (now (s .tape)) (now (s .output)) _ _ (c .before .before .before .before .before .before .before .box-need .ensures) (c .before .before .before .before .before .before .checked .ensures) in
-    let k = box-taken (s .order) (now (s .input)) (now (s .tape)) (now (s .output)) _ _ e (c .before .before .before .before .enum-told .given .1) in
+    let s = c .before .before .before .before .before .before .before .before .before .before .before .before .before .before .before .before .before .args in
+    let e = box-checked (s .order) (now (s .input)) (now (s .tape)) (now (s .output)) _ _ (c .before .before .before .before .before .before .before .before .before .before .before .box-need .ensures) (c .before .before .before .before .before .before .before .before .before .before .checked .ensures) in
+    let k = box-taken (s .order) (now (s .input)) (now (s .tape)) (now (s .output)) _ _ e (c .before .before .before .before .before .before .before .before .enum-told .given .1) in
     let b = c .before .before .box-core .ensures in
-    guarded-done _ _ _ _ _ _ _ _ (sym (c .before .before .before .before .before .before .before .before .before .unserved .ensures) ∙ c .before .before .before .before .before .before .before .before .if1 .left) _ e _ _ _ (c .before .before .before .before .enum-told .given .1) (b .0 ∙ sym (k .3)) (b .1)
+    guarded-done _ _ _ _ _ _ _ _ (sym (c .before .before .before .before .before .before .before .before .before .before .before .before .before .unserved .ensures) ∙ c .before .before .before .before .before .before .before .before .before .before .before .before .if1 .left) _ e _ _ _ (c .before .before .before .before .before .before .before .before .enum-told .given .1) (b .0 ∙ sym (k .3)) (b .1)
 
 pub masked-box-spec : {M : Type 1} → statement M
 masked-box-spec =
@@ -70,6 +77,8 @@ masked-box-spec =
     enum-told
     enum-told-2
     returns-2
+    logs-requires
+    antilogs-requires
     box-core-requires
     same-length
     returns-3)

@@ -1,16 +1,17 @@
 -- `sbox::powers::last_stage` meets its contract. Assumes nothing.
 use mathlib.Core.Path.{ap₂}
 use Prim.Native.Nat.{_+_}
+use native.Mathlib.Omega.{arith}
 use borrow.Author.Needs.{needs}
 use Rattle.sbox.proofs.StageLaws.{last-after}
 use Rattle.sbox.proofs.powers.last_stage.Statement.{statement}
 use Rattle.sbox.proofs.powers.last_stage.Tie as tie
 
-sixteenth-all-requires : tie.Need-sixteenth-all-requires
-sixteenth-all-requires c κs = search needs
+raise-requires : tie.Need-raise-requires
+raise-requires c κs = search needs
 
 product-core-requires : tie.Need-product-core-requires
-product-core-requires c κs = search needs
+product-core-requires c κs = (omega arith, omega arith, omega arith, omega arith, omega arith, c .before .before .before .before .before .before .before .before .before .before .before .before .before .pre .7)
 
 sub-product-core : tie.Need-sub-product-core
 sub-product-core c = search needs
@@ -22,10 +23,10 @@ part-product-core-end : tie.Need-part-product-core-end
 part-product-core-end c = search needs
 
 product-core-requires-2 : tie.Need-product-core-requires-2
-product-core-requires-2 c κs = search needs
+product-core-requires-2 c κs = (omega arith, omega arith, omega arith, omega arith, omega arith, c .before .before .before .before .before .before .before .before .before .before .before .before .before .before .before .before .before .before .before .pre .7)
 
 add-result : tie.Need-add-result
-add-result c = search needs
+add-result c = omega (arith, c .before .before .before .before .before .before .before .before .product-core .ensures .0, c .before .before .product-core2 .ensures .0, c .before .before .before .before .before .before .before .before .before .before .before .before .before .before .before .before .before .before .before .before .before .before)
 
 same-length : tie.Need-same-length
 same-length c = search needs
@@ -40,13 +41,13 @@ returns : tie.Need-returns
 returns c =
     let p = c .before .before .before .before .before .before .before .before .product-core .ensures in
     let q = c .before .before .product-core2 .ensures in
-    (ap₂ _+_ (p .0) (q .0), last-after _ _ _ _ _ _ _ _ _ (c .before .before .before .before .before .before .before .before .before .before .before .before .before .sixteenth-all .ensures) (p .1) (p .0) (q .1))
+    (ap₂ _+_ (p .0) (q .0), last-after _ _ _ _ _ _ _ _ _ (c .before .before .before .before .before .before .before .before .before .before .before .before .before .raise .ensures) (p .1) (p .0) (q .1))
 
 pub last-stage-spec : {M : Type 1} → statement M
 last-stage-spec =
     tie.close
     (tie.spec
-    sixteenth-all-requires
+    raise-requires
     product-core-requires
     sub-product-core
     part-product-core-start

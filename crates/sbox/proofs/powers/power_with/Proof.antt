@@ -26,7 +26,7 @@ part-second-stage-end c = search needs
 
 second-stage-requires : tie.Need-second-stage-requires
 unfolding box-need
-second-stage-requires c κs = search needs
+second-stage-requires c κs = (omega arith, omega arith, omega arith, omega arith, omega arith, c .before .before .before .before .before .before .before .before .before .before .before .before .before .before .before .before .before .before .pre .8)
 
 add-second : tie.Need-add-second
 unfolding box-need
@@ -45,7 +45,7 @@ part-last-stage-end c = search needs
 
 last-stage-requires : tie.Need-last-stage-requires
 unfolding box-need
-last-stage-requires c κs = search needs
+last-stage-requires c κs = (omega arith, omega arith, omega arith, omega arith, omega arith, omega arith, omega arith, c .before .before .before .before .before .before .before .before .before .before .before .before .before .before .before .before .before .before .before .before .before .before .before .before .before .before .before .before .before .pre .8)
 
 add-result : tie.Need-add-result
 unfolding box-need

@@ -11,11 +11,11 @@ use Rattle.schedule.proofs.expansion.expand.Statement.{statement}
 use Rattle.schedule.proofs.expansion.expand.Tie as tie
 
 abbrev Inv-loop : tie.InvT-loop
-Inv-loop nk d total tape x₀ y₀ t₀ keys₀ m at₀ i₀ x y t keys at i =
+Inv-loop logs antilogs nk d total tape x₀ y₀ t₀ keys₀ m at₀ i₀ x y t keys at i =
     (nk ≤ i) × (i ≤ total) × (m ≡ 4 * total) × Expanding nk d total tape keys₀ i at keys × (length x ≡ length x₀) × (length y ≡ length y₀) × (length t ≡ length t₀)
 
 abbrev μ-loop : tie.MeasureT-loop
-μ-loop nk d total tape x₀ y₀ t₀ keys₀ m at₀ i₀ x y t keys at i = total - i
+μ-loop logs antilogs nk d total tape x₀ y₀ t₀ keys₀ m at₀ i₀ x y t keys at i = total - i
 
 mul-m : tie.Need-mul-m Inv-loop μ-loop
 mul-m c = search needs
@@ -23,7 +23,7 @@ mul-m c = search needs
 loop-holds : tie.Need-loop-holds Inv-loop μ-loop
 loop-holds c =
     let v = c .before .before .before .before .before .args in
-    (omega arith, omega arith, refl, expanding-start (v .nk) (v .d) (v .total) (now (v .tape)) (now (v .keys)) (c .before .before .before .before .before .pre .keyed), refl, refl, refl)
+    (omega arith, omega arith, refl, expanding-start (v .nk) (v .d) (v .total) (now (v .tape)) (now (v .keys)) (c .before .before .before .before .before .pre .0 .keyed), refl, refl, refl)
 
 sub-next-word : tie.Need-sub-next-word Inv-loop μ-loop
 sub-next-word c = search needs
@@ -38,22 +38,24 @@ next-word-requires : tie.Need-next-word-requires Inv-loop μ-loop
 next-word-requires c κs =
     let start = c .before .before .before .before .before .before .before .before .before .before .before .before in
     let v = start .args in
-    let fit = start .pre in
+    let fit = start .pre .0 in
     let l = c .before .before .before .before .before .before .loop in
     let so-far = l .inv .3 in
     let test = c .before .before .before .before .before in
-    let room = expanding-room (v .nk) (v .d) (v .total) (now (v .tape)) (now (v .keys)) (l .i) (l .at) (l .keys) so-far (omega (arith, test)) in
-    record {
-      order = fit .order;
-      some = fit .some;
-      past = l .inv .0;
-      room = omega (arith, test);
-      keyed = so-far .long;
-      drawn = omega (arith, room, fit .drawn, length-part-rest (now (v .tape)) (l .at));
-      x-long = l .inv .4 ∙ fit .x-long;
-      y-long = l .inv .5 ∙ fit .y-long;
-      t-long = l .inv .6 ∙ fit .t-long;
-    }
+    let room = expanding-room (v .nk) (v .d) (v .total) (now (v .tape)) (now (v .keys)) (l .i) (l .at) (l .keys) so-far (omega (arith, test)) in (
+      record {
+        order = fit .order;
+        some = fit .some;
+        past = l .inv .0;
+        room = omega (arith, test);
+        keyed = so-far .long;
+        drawn = omega (arith, room, fit .drawn, length-part-rest (now (v .tape)) (l .at));
+        x-long = l .inv .4 ∙ fit .x-long;
+        y-long = l .inv .5 ∙ fit .y-long;
+        t-long = l .inv .6 ∙ fit .t-long;
+      },
+      start .pre .1,
+    )
 
 add-at : tie.Need-add-at Inv-loop μ-loop
 add-at c =
@@ -61,7 +63,7 @@ add-at c =
     let v = start .args in
     let l = c .before .before .before .before .before .before .before .before .before .before .before .before .before .before .before .loop in
     let test = c .before .before .before .before .before .before .before .before .before .before .before .before .before .before in
-    omega (arith, expanding-room (v .nk) (v .d) (v .total) (now (v .tape)) (now (v .keys)) (l .i) (l .at) (l .keys) (l .inv .3) (omega (arith, test)), start .pre .drawn, c .before .before .before .before .before .before .before .before .next-word .ensures .0)
+    omega (arith, expanding-room (v .nk) (v .d) (v .total) (now (v .tape)) (now (v .keys)) (l .i) (l .at) (l .keys) (l .inv .3) (omega (arith, test)), start .pre .0 .drawn, c .before .before .before .before .before .before .before .before .next-word .ensures .0)
 
 add-i : tie.Need-add-i Inv-loop μ-loop
 add-i c = search needs
@@ -76,7 +78,7 @@ loop-again c =
     let l = c .before .before .before .before .before .before .before .before .before .before .before .before .before .before .before .loop in
     let test = c .before .before .before .before .before .before .before .before .before .before .before .before .before .before in
     let q = c .before .before .before .before .before .before .before .before .next-word in
-    (omega (arith, l .inv), omega (arith, test), refl, expanding-stored (v .nk) (v .d) (v .total) (now (v .tape)) (now (v .keys)) (l .i) (l .at) (l .keys) (l .inv .3) (q .result) _ (start .pre .some) (l .inv .0) (omega (arith, test)) (q .ensures .0) (q .ensures .1), search needs, search needs, search needs)
+    (omega (arith, l .inv), omega (arith, test), refl, expanding-stored (v .nk) (v .d) (v .total) (now (v .tape)) (now (v .keys)) (l .i) (l .at) (l .keys) (l .inv .3) (q .result) _ (start .pre .0 .some) (l .inv .0) (omega (arith, test)) (q .ensures .0) (q .ensures .1), search needs, search needs, search needs)
 
 same-length : tie.Need-same-length Inv-loop μ-loop
 same-length c = search needs

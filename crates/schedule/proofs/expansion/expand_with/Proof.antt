@@ -29,18 +29,20 @@ lay-key-requires c κs =
 expand-requires : tie.Need-expand-requires
 expand-requires c κs =
     let v = c .before .before .before .before .before .before .before .before .before .before .before .before .before .before .args in
-    let p = c .before .before .before .before .before .before .before .before .before .before .before .before .before .before .pre in
-    record {
-      order = p .0;
-      some = p .1;
-      past = omega arith;
-      keyed = c .before .before .before .before .before .before .lay-key .kept .1 .1 .1 .1 .0 ∙ p .4 ∙ ap (λ (n : ℕ). suc (v .d) * n) (sym (bytes-is (v .nk)));
-      drawn = omega (arith, need-is (v .nk) (v .d));
-      x-long = p .6;
-      y-long = p .7;
-      t-long = p .8;
-      small = omega arith;
-    }
+    let p = c .before .before .before .before .before .before .before .before .before .before .before .before .before .before .pre in (
+      record {
+        order = p .0;
+        some = p .1;
+        past = omega arith;
+        keyed = c .before .before .before .before .before .before .lay-key .kept .1 .1 .1 .1 .0 ∙ p .4 ∙ ap (λ (n : ℕ). suc (v .d) * n) (sym (bytes-is (v .nk)));
+        drawn = omega (arith, need-is (v .nk) (v .d));
+        x-long = p .6;
+        y-long = p .7;
+        t-long = p .8;
+        small = omega arith;
+      },
+      p .9,
+    )
 
 same-length : tie.Need-same-length
 same-length c = search needs
@@ -59,7 +61,7 @@ returns c =
     let v = c .before .before .before .before .before .before .before .before .before .before .before .before .before .before .before .before .before .before .before .before .before .before .before .args in
     let laid-key = c .before .before .before .before .before .before .before .before .before .before .before .before .before .before .before .lay-key in
     let done = c .before .before .before .before .before .before .before .before .expand in
-    let long = done .kept .1 .1 .1 .1 .1 .1 .1 .0 ∙ laid-key .kept .1 .1 .1 .1 .0 ∙ c .before .before .before .before .before .before .before .before .before .before .before .before .before .before .before .before .before .before .before .before .before .before .before .pre .4 ∙ ap (λ (n : ℕ). suc (v .d) * n) (sym (bytes-is (v .nk))) in
+    let long = done .kept .1 .1 .1 .1 .1 .1 .1 .1 .1 .0 ∙ laid-key .kept .1 .1 .1 .1 .0 ∙ c .before .before .before .before .before .before .before .before .before .before .before .before .before .before .before .before .before .before .before .before .before .before .before .pre .4 ∙ ap (λ (n : ℕ). suc (v .d) * n) (sym (bytes-is (v .nk))) in
     (done .ensures .0 ∙ need-is (v .nk) (v .d), expanded-is (v .nk) (v .d) (4 * (v .nk + 7)) (now (v .key)) (now (v .tape)) _ _ refl long (laid-key .ensures) (done .ensures .1))
 
 pub expand-with-spec : {M : Type 1} → statement M

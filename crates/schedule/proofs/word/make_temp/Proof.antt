@@ -19,7 +19,7 @@ turned-temp-requires c κs =
     let v = c .before .before .before .before .before .before .before .before .args in
     let test = c .before .before .before in
     let e = kind-turned (v .nk) (v .i) (omega (arith, test)) in
-    (c .before .before .before .before .before .before .before .before .pre .0, some-turn (v .nk) (v .i) (c .before .before .before .before .before .before .before .before .pre .1) (c .before .before .before .before .before .before .before .before .pre .2), search needs, search needs, search needs, need-turned (v .nk) (v .d) (v .i) _ e (c .before .before .before .before .before .before .before .before .pre .6))
+    (c .before .before .before .before .before .before .before .before .pre .0, some-turn (v .nk) (v .i) (c .before .before .before .before .before .before .before .before .pre .1) (c .before .before .before .before .before .before .before .before .pre .2), search needs, search needs, search needs, need-turned (v .nk) (v .d) (v .i) _ e (c .before .before .before .before .before .before .before .before .pre .6), c .before .before .before .before .before .before .before .before .pre .7)
 
 same-length : tie.Need-same-length
 same-length c = search needs
@@ -43,7 +43,7 @@ sub-word-requires c κs =
     let v = c .before .before .before .before .before .before .before .before .before .before .args in
     let test = c .before .before .before in
     let e = kind-subbed (v .nk) (v .i) (omega (arith, test)) (omega (arith, test)) in
-    (c .before .before .before .before .before .before .before .before .before .before .pre .0, search needs, search needs, search needs, need-subbed (v .nk) (v .d) (v .i) _ e (c .before .before .before .before .before .before .before .before .before .before .pre .6))
+    (c .before .before .before .before .before .before .before .before .before .before .pre .0, search needs, search needs, search needs, need-subbed (v .nk) (v .d) (v .i) _ e (c .before .before .before .before .before .before .before .before .before .before .pre .6), c .before .before .before .before .before .before .before .before .before .before .pre .7)
 
 same-length-4 : tie.Need-same-length-4
 same-length-4 c = search needs

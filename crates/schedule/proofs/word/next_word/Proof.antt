@@ -1,4 +1,5 @@
 -- `schedule::word::next_word` meets its contract. Assumes nothing.
+use native.Mathlib.Omega.{arith}
 use borrow.Author.Needs.{needs}
 use denote.Ref.{now}
 use Rattle.schedule.proofs.WordLaws.{word-is}
@@ -12,7 +13,9 @@ fetch-requires : tie.Need-fetch-requires
 fetch-requires c κs = search needs
 
 make-temp-requires : tie.Need-make-temp-requires
-make-temp-requires c κs = search needs
+make-temp-requires c κs =
+    let fit = c .before .before .before .before .before .before .before .before .before .before .before .before .before .pre in
+    (fit .0 .order, fit .0 .some, fit .0 .past, omega arith, omega arith, omega arith, fit .0 .drawn, fit .1)
 
 store-all-requires : tie.Need-store-all-requires
 store-all-requires c κs = search needs

@@ -12,11 +12,11 @@ use Rattle.state.proofs.substitution.sub_listed.Statement.{statement}
 use Rattle.state.proofs.substitution.sub_listed.Tie as tie
 
 abbrev Inv-loop : tie.InvT-loop
-Inv-loop which d l list tape x₀ y₀ s₀ at₀ m₀ m-end x y s at m =
+Inv-loop logs antilogs which d l list tape x₀ y₀ s₀ at₀ m₀ m-end x y s at m =
     (m ≤ m-end) × (m-end ≡ length list) × Subbing which d l list tape s₀ m at s × (length x ≡ length x₀) × (length y ≡ length y₀)
 
 abbrev μ-loop : tie.MeasureT-loop
-μ-loop which d l list tape x₀ y₀ s₀ at₀ m₀ m-end x y s at m = m-end - m
+μ-loop logs antilogs which d l list tape x₀ y₀ s₀ at₀ m₀ m-end x y s at m = m-end - m
 
 loop-holds : tie.Need-loop-holds Inv-loop μ-loop
 loop-holds c = (omega arith, refl, subbing-start _ _ _ _ _ _ (omega arith), refl, refl)
@@ -41,7 +41,9 @@ sub-place-requires c κs =
     let a = c .before .before .before .before .before .before .before .before .before .before .before .before .args in
     let l = c .before .before .before .before .before .before .loop in
     let k = all-getD 0 (l .m) (omega arith) (c .before .before .before .before .before .before .before .before .before .before .before .before .pre .1) in
-    omega (arith, k, l .inv .2 .long, subbing-room (a .which) (a .d) (a .l) (now (a .list)) (now (a .tape)) (now (a .s)) (l .m) (l .at) (l .s) (l .inv .2) (omega arith), length-drop (l .at) (now (a .tape)))
+    let room = subbing-room (a .which) (a .d) (a .l) (now (a .list)) (now (a .tape)) (now (a .s)) (l .m) (l .at) (l .s) (l .inv .2) (omega arith) in
+    let long = l .inv .2 .long in
+    (omega arith, omega (arith, k), omega (arith, long), omega arith, omega arith, omega (arith, room, length-drop (l .at) (now (a .tape))), c .before .before .before .before .before .before .before .before .before .before .before .before .pre .6)
 
 add-at : tie.Need-add-at Inv-loop μ-loop
 add-at c =

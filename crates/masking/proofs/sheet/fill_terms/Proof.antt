@@ -1,4 +1,4 @@
--- `masking::product::fill_terms` meets its contract. Assumes nothing.
+-- `masking::sheet::fill_terms` meets its contract. Assumes nothing.
 use mathlib.Core.Path.{_≡_, refl}
 use Prim.Native.Nat.{_≤_, _<_, _+_, _*_, _-_}
 use native.Mathlib.Omega.{arith}
@@ -8,22 +8,22 @@ use lib.ListN.{length, length-set}
 use Rattle.xor.specs.Lists.{at}
 use Rattle.isw.specs.Place.{before-row}
 use Rattle.masking.proofs.TermsLaws.{Filled, filled-more, filled-all, before-row-next, before-row-le, pair-terms}
-use Rattle.masking.proofs.product.fill_terms.Statement.{statement}
-use Rattle.masking.proofs.product.fill_terms.Tie as tie
+use Rattle.masking.proofs.sheet.fill_terms.Statement.{statement}
+use Rattle.masking.proofs.sheet.fill_terms.Tie as tie
 
 abbrev Inv-loop2 : tie.InvT-loop2
-Inv-loop2 n a b tape table₀ drawn₀ i j₀ table drawn j =
+Inv-loop2 logs antilogs n a b tape table₀ drawn₀ i j₀ table drawn j =
     (i < j) × (j ≤ n) × (drawn ≡ before-row n i + (j - (i + 1))) × (before-row n (i + 1) ≡ before-row n i + (n - (i + 1))) × (before-row n (i + 1) ≤ before-row n n)
     × (length table ≡ 81) × Filled n a b tape (9 * i + j) table
 
 abbrev μ-loop2 : tie.MeasureT-loop2
-μ-loop2 n a b tape table₀ drawn₀ i j₀ table drawn j = n - j
+μ-loop2 logs antilogs n a b tape table₀ drawn₀ i j₀ table drawn j = n - j
 
 abbrev Inv-loop : tie.InvT-loop
-Inv-loop n a b tape table₀ drawn₀ i₀ table drawn i = (i ≤ n) × (drawn ≡ before-row n i) × (length table ≡ 81) × Filled n a b tape (9 * i) table
+Inv-loop logs antilogs n a b tape table₀ drawn₀ i₀ table drawn i = (i ≤ n) × (drawn ≡ before-row n i) × (length table ≡ 81) × Filled n a b tape (9 * i) table
 
 abbrev μ-loop : tie.MeasureT-loop
-μ-loop n a b tape table₀ drawn₀ i₀ table drawn i = n - i
+μ-loop logs antilogs n a b tape table₀ drawn₀ i₀ table drawn i = n - i
 
 loop-holds : tie.Need-loop-holds Inv-loop2 μ-loop2 Inv-loop μ-loop
 unfolding before-row
