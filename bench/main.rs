@@ -54,7 +54,7 @@ fn compare(count: usize, order: usize) -> (f64, f64) {
 }
 
 fn main() {
-    println!("encryptions with a 16-byte key, library against plain Rust with the same steps, best of {TURNS} turns");
+    println!("encryptions with a 16-byte key, library against plain Rust with the same steps and tables, best of {TURNS} turns");
     for (order, count) in [(2, 10_000), (1, 10_000), (3, 8000), (4, 6000), (5, 4000), (6, 4000), (7, 3000), (8, 3000)] {
         let (ours, theirs) = compare(count, order);
         println!("order {order}, {count:5} encryptions: {ours:.3} s, {theirs:.3} s, ratio {:.2}", ours / theirs);

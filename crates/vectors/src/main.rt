@@ -1,5 +1,6 @@
-// Runs the masked AES in both directions on values known from elsewhere and compares: document 01's small values that no theorem covers, the field's two
-// products on all bytes, the published examples of FIPS 197, and on standard input the lines that an unrelated AES made (make-stdin). Prints what was computed, line by line.
+// Runs the masked AES in both directions on values known from elsewhere and compares: document 01's small values that no theorem covers, the published
+// examples of FIPS 197, and on standard input the lines that an unrelated AES made (make-stdin); and the field's two products on all bytes. Prints what
+// was computed, line by line.
 mod answers;
 mod counts;
 mod examples;
