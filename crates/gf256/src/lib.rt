@@ -1,5 +1,7 @@
 // Bytes as elements of AES's field: products, powers, the affine maps of the S-boxes, one column of MixColumns and of InvMixColumns.
-// Document 01, "Bytes as field elements", and document 02, wish 2, decide; specs/Field.antt has the definitions that the contracts name.
+// Document 01, "Bytes as field elements", and document 02, wishes 2, 3 and 5, decide; specs/Field.antt has the definitions that the contracts name.
+//
+// The products and powers by logs ask for the two tables: their callers, the cores of the crates above, are lent them.
 mod affine_map;
 mod columns;
 mod powers;

@@ -1,4 +1,5 @@
-// The masked product of two bytes in shares.
+// The masked product of two bytes in shares: each share's running sum takes in its terms pair by pair, in the order of the draws. Document 01, "The steps
+// over shares", decides.
 ghost use mathlib.Core.Path.{_≡_};
 ghost use mathlib.Core.List.{List};
 ghost use Prim.Native.Nat.{ℕ, _+_, _≤_};
