@@ -30,18 +30,3 @@ pub fn mix_by(which: Direction, a: u8, b: u8, c: u8, d: u8) -> u8
         Direction::Inverse => unmix(a, b, c, d),
     }
 }
-
-pub fn mix_column(s: [u8; 4]) -> [u8; 4]
-    ensures { λ r. ⌜ r ≡ Field.mix-column s ⌝ }
-{
-    let a = s[0];
-    let b = s[1];
-    let c = s[2];
-    let d = s[3];
-    [
-        mix(a, b, c, d),
-        mix(b, c, d, a),
-        mix(c, d, a, b),
-        mix(d, a, b, c),
-    ]
-}

@@ -7,17 +7,17 @@ use native.Mathlib.Nat.{mul-le-mul, suc-mul, mul-le-mul-right}
 use native.Mathlib.Numerals.{add-one}
 use native.Mathlib.Omega.{arith}
 use borrow.Rule.Slice.PartMut.{putMid}
+use lib.Bits.{bitXor}
 use lib.ListN.{length, take, drop, set, length-map, length-append}
 use lib.Seq.{sets-eq, getD-drop}
 use Rattle.xor.specs.Lists.{at, runs, tab}
 use Rattle.xor.proofs.ListsLaws.{runs-cong, tab-cong, length-runs, length-tab, map-runs, map-tab, tab-at}
 use Rattle.gf256.specs.Field.{times}
-use Rattle.isw.specs.Place.{Place, left, right, part, running, skip, half-sum, other, byte, pair-places, pair-row, row-places, places, place-count, before-row, draw-index, drawn, value, sheet}
-use Rattle.isw.proofs.OrderLaws.{product-need-is, length-rows}
+use Rattle.isw.specs.Place.{Place, left, right, part, running, skip, half-sum, other, byte, pair-places, pair-row, row-places, places, place-count, before-row, draw-index, drawn, product-need, value, sheet}
+use Rattle.isw.proofs.OrderLaws.{product-need-is, twice-need, length-rows}
 use Rattle.shares.specs.Writes.{front}
-use Rattle.shares.proofs.WriteLaws.{part-rest, front-part, front-all}
-use Rattle.masking.specs.Steps.{pair-of, bytes-of, row-bytes, Terms}
-use Rattle.masking.specs.declared.Pair.{Pair}
+use Rattle.shares.proofs.WriteLaws.{part-rest, front-part, front-all, at-front}
+use Rattle.masking.specs.Steps.{pair-of, bytes-of, crosses, halves, crosseds, backs, five-rows, row-bytes, Terms}
 use Rattle.masking.proofs.TermsLaws.{product-need-rows, terms-row}
 
 -- ---- counts
@@ -27,6 +27,12 @@ pub count-bounds : (d : ℕ) → d ≤ 8 → ((d + 1) * (d + 1) ≤ 81) × (d * 
 count-bounds d h =
     let n : d + 1 ≤ 9 = omega arith in
     (mul-le-mul n n, mul-le-mul h n)
+
+-- 36 bytes are drawn at the most
+pub few-drawn : (d : ℕ) → d ≤ 8 → product-need d ≤ 36
+few-drawn d h =
+    let n : suc d ≤ 9 = omega arith in
+    omega (arith, twice-need d, mul-le-mul h n)
 
 pub place-count-rows : (d : ℕ) → place-count d ≡ 2 * (d + 1) + 5 * before-row (d + 1) (d + 1) + (d + 1) * (d + 1)
 unfolding place-count
@@ -58,11 +64,27 @@ module _ (a b ts : List ℕ) (i : ℕ) where
   unfolding row-bytes
   length-row-bytes m = length-runs 5 _ m (λ k l. refl)
 
+module _ (r c h d k : List ℕ) where
+  pub length-five-rows : (m : ℕ) → length (five-rows r c h d k m) ≡ 5 * m
+  unfolding five-rows
+  length-five-rows m = length-runs 5 _ m (λ q l. refl)
+
   -- one pair more
-  pub row-bytes-more : (m : ℕ) (p : Pair) → p ≡ pair-of (at ts m) (at a i) (at b (i + 1 + m)) (at a (i + 1 + m)) (at b i)
-      → row-bytes a b ts i m ++ bytes-of p ≡ row-bytes a b ts i (m + 1)
-  unfolding row-bytes runs
-  row-bytes-more m p e = rw (e, add-one, add-one) refl
+  pub five-rows-more : (m : ℕ) → five-rows r c h d k m ++ (at r m ∷ at c m ∷ at h m ∷ at d m ∷ at k m ∷ []) ≡ five-rows r c h d k (m + 1)
+  unfolding five-rows runs
+  five-rows-more m = rw add-one refl
+
+  -- where the rows hold the bytes of the pairs of row i
+  pub five-rows-right : (a b : List ℕ) (i w : ℕ) → ((m : ℕ) → m < w → at c m ≡ crosses a b i m) → ((m : ℕ) → m < w → at h m ≡ halves a b r i m)
+      → ((m : ℕ) → m < w → at d m ≡ crosseds a b i m) → ((m : ℕ) → m < w → at k m ≡ backs a b r i m) → five-rows r c h d k w ≡ row-bytes a b r i w
+  unfolding five-rows row-bytes
+  five-rows-right a b i w ec eh ed ek = runs-cong _ _ w (λ m l. rw (ec m l, eh m l, ed m l, ek m l) refl)
+
+-- the second half of the pairs of a row, on the first half's bytes
+pub backs-right : (a b tape : List ℕ) (i w : ℕ) (h o q x : List ℕ) → h ≡ front (tab (halves a b tape i) w) o
+    → q ≡ front (tab (λ m. bitXor (at h m) (crosseds a b i m)) w) x → q ≡ front (tab (backs a b tape i) w) x
+backs-right a b tape i w h o q x e f =
+    f ∙ ap (λ (l : List ℕ). front l x) (tab-cong _ _ w (λ m l. ap (λ (z : ℕ). bitXor z (crosseds a b i m)) (at-front (halves a b tape i) w m h o e l)))
 
 -- ---- the rows of n shares
 
@@ -98,9 +120,9 @@ module _ (n : ℕ) (a b ts : List ℕ) where
 
   pair-bytes : (i m : ℕ)
       → map byte-at (pair-places i (suc i + m))
-      ≡ bytes-of (pair-of (at (drop (before-row n i) ts) m) (at a i) (at b (suc i + m)) (at a (suc i + m)) (at b i))
+      ≡ bytes-of (pair-of (at (drop (before-row n i) ts) m) (at a i) (at b (i + 1 + m)) (at a (i + 1 + m)) (at b i))
   unfolding pair-places byte half-sum other
-  pair-bytes i m = ap (λ (r : ℕ). bytes-of (pair-of r (at a i) (at b (suc i + m)) (at a (suc i + m)) (at b i))) (drawn-row i m)
+  pair-bytes i m = rw add-one (ap (λ (r : ℕ). bytes-of (pair-of r (at a i) (at b (suc i + m)) (at a (suc i + m)) (at b i))) (drawn-row i m))
 
   pair-row-bytes : (i : ℕ) → map byte-at (pair-row n i) ≡ row-bytes a b (drop (before-row n i) ts) i (n - suc i)
   unfolding pair-row row-bytes

@@ -1,5 +1,5 @@
 -- The running sums of a product's shares, which take in its terms pair by pair, in the order of the draws. Assumes nothing.
-use mathlib.Core.Path.{_≡_, refl, sym, _∙_}
+use mathlib.Core.Path.{_≡_, refl, sym, ap, _∙_}
 use mathlib.Core.List.{List}
 use Prim.Native.Nat.{ℕ, suc, _+_, _-_, _≤_, _<_}
 use native.Mathlib.Omega.{arith}
@@ -13,9 +13,24 @@ use Rattle.xor.proofs.ListsLaws.{at-tab, tab-at, tab-cong}
 use Rattle.gf256.specs.Field.{times}
 use Rattle.isw.specs.Place.{running, row, before-row, drawn, product}
 use Rattle.isw.proofs.PlaceLaws.{skip-past, skip-before}
-use Rattle.masking.specs.declared.Pair.{Pair}
-use Rattle.masking.specs.Steps.{pair-of, Sums}
-use Rattle.masking.proofs.TermsLaws.{r, pair-terms, product-rows}
+use Rattle.shares.specs.Writes.{front}
+use Rattle.shares.proofs.WriteLaws.{at-front}
+use Rattle.masking.specs.Steps.{backs, Sums}
+use Rattle.masking.proofs.TermsLaws.{r, row-terms, product-rows}
+
+-- ---- a share's own sums over the draws of its row
+
+module _ (start : ℕ) (tape : List ℕ) where
+  pub own-next : (m s q : ℕ) → s ≡ running start (at tape) m → q ≡ bitXor s (at tape m) → q ≡ running start (at tape) (m + 1)
+  unfolding running
+  own-next m s q e f = rw (f, e, add-one) refl
+
+  -- the last of them stands at the end of their row
+  pub own-last : (y o : List ℕ) (m w s : ℕ) → m ≡ w → 0 < w → s ≡ running start (at tape) m → y ≡ front (tab (λ k. running start (at tape) (k + 1)) w) o
+      → at y (w - 1) ≡ s
+  own-last y o m w s e h g f =
+      let x : w - 1 + 1 ≡ w = omega arith in
+      at-front (λ k. running start (at tape) (k + 1)) w (w - 1) y o f (omega arith) ∙ ap (running start (at tape)) (x ∙ sym e) ∙ sym g
 
 module _ (n : ℕ) (a b ts : List ℕ) where
   -- the sum of share k after q of its terms
@@ -65,12 +80,12 @@ module _ (n : ℕ) (a b ts : List ℕ) where
         begun = λ k l u. g .begun k (omega arith) u;
       }
 
-  pub row-pair : (i m j s : ℕ) (o tape : List ℕ) (p : Pair) → tape ≡ drop (before-row n i) ts → j ≡ i + 1 + m → j < n → n ≤ length o
-      → p ≡ pair-of (at tape m) (at a i) (at b j) (at a j) (at b i)
-      → Row-sums i m s o → Row-sums i (m + 1) (bitXor s (p .drawn)) (set o j (bitXor (at o j) (p .back)))
+  pub row-pair : (i m s v : ℕ) (o tape : List ℕ) → tape ≡ drop (before-row n i) ts → i + 1 + m < n → n ≤ length o
+      → v ≡ backs a b tape i m
+      → Row-sums i m s o → Row-sums i (m + 1) (bitXor s (at tape m)) (set o (i + 1 + m) (bitXor (at o (i + 1 + m)) v))
   unfolding at
-  row-pair i m j s o tape p f x h l q g = record {
-    own = sum-past i m s (p .drawn) (g .own) (rw x at (t .0));
+  row-pair i m s v o tape f h l q g = record {
+    own = sum-past i m s (at tape m) (g .own) (t .0);
     whole = λ k u. other k (λ z. omega arith) ∙ g .whole k u;
     taken = λ k u v. elim (decLt k j) [
       | yes y ↦ other k (λ z. omega arith) ∙ g .taken k u (omega arith)
@@ -79,19 +94,20 @@ module _ (n : ℕ) (a b ts : List ℕ) where
     begun = λ k u v. other k (λ z. omega arith) ∙ g .begun k (omega arith) v;
   }
     where
-      o′ : List ℕ
-      o′ = set o j (bitXor (at o j) (p .back))
+      j : ℕ
+      j = i + 1 + m
 
-      t : (p .drawn ≡ r n a b ts i j) × (p .back ≡ r n a b ts j i)
-      t =
-          let e : at tape m ≡ at ts (before-row n i + m) = rw f (getD-drop (before-row n i) ts m 0) in
-          pair-terms n a b ts i j (before-row n i + m) p (omega arith) (omega arith) (rw e at q)
+      o′ : List ℕ
+      o′ = set o j (bitXor (at o j) v)
+
+      t : (at tape m ≡ r n a b ts i j) × (v ≡ r n a b ts j i)
+      t = row-terms n a b ts i m v tape f q
 
       other : (k : ℕ) → (k ≡ j → ⊥) → at o′ k ≡ at o k
       other k z = getD-set-other o j k _ 0 z
 
       new : at o′ j ≡ sum-of j (i + 1)
-      new = getD-set-same o j _ 0 (omega arith) ∙ sum-before i j (at o j) (p .back) (omega arith) (g .begun j (omega arith) h) (t .1)
+      new = getD-set-same o j _ 0 (omega arith) ∙ sum-before i j (at o j) v (omega arith) (g .begun j (omega arith) h) (t .1)
 
   pub row-end : (i w s : ℕ) (o : List ℕ) → n ≡ i + 1 + w → n ≤ length o → Row-sums i w s o → Sums n a b ts (i + 1) (set o i s)
   unfolding at
@@ -110,6 +126,18 @@ module _ (n : ℕ) (a b ts : List ℕ) where
       new = let e : i + w ≡ n - 1 = omega arith in getD-set-same o i s 0 (omega arith) ∙ (rw e at (g .own))
 
 -- ---- after all pairs, the sums are the product's shares
+
+-- the last share has no row of its own
+pub sums-last : (d : ℕ) (a b ts o : List ℕ) → Sums (d + 1) a b ts d o → Sums (d + 1) a b ts (d + 1) o
+sums-last d a b ts o g =
+    let e : d + 1 - 1 ≡ d = omega arith in
+    record {
+      whole = λ k u. elim (decLt k d) [
+        | yes y ↦ g .whole k y
+        | no y ↦ let f : k ≡ d = omega arith in rw (f, e) (g .begun d (omega arith) (omega arith))
+      ];
+      begun = λ k u v. absurd (omega arith);
+    }
 
 pub sums-all : (d : ℕ) (a b ts o : List ℕ) → length o ≡ d + 1 → Sums (d + 1) a b ts (d + 1) o → o ≡ product times d a b ts
 sums-all d a b ts o l g =

@@ -1,22 +1,22 @@
 -- The table of a product's terms, which holds r(i, j) at i * 9 + j: pair by pair it is filled, and the sums of its rows are those of the product.
 -- Assumes nothing.
-use mathlib.Core.Path.{_≡_, refl, sym, _∙_}
+use mathlib.Core.Path.{_≡_, refl, sym, ap, _∙_}
 use mathlib.Core.List.{List}
 use Prim.Native.Nat.{ℕ, zero, suc, _+_, _*_, _-_, _≤_, _<_}
 use native.Mathlib.Omega.{arith}
 use native.Mathlib.Numerals.{add-one}
 use native.Mathlib.Decide.{decLt}
 use borrow.Author.Tests.{lt-ltb, le-ltb}
-use lib.ListN.{length, set, length-set}
-use lib.Seq.{getD-set-same, getD-set-other}
+use lib.Bits.{bitXor}
+use lib.ListN.{length, drop, set, length-set}
+use lib.Seq.{getD-set-same, getD-set-other, getD-drop}
 use Rattle.xor.specs.Lists.{at, tab}
 use Rattle.xor.proofs.ListsLaws.{map-tab}
 use Rattle.gf256.specs.Field.{times}
 use Rattle.isw.specs.Place.{part, running, skip, half-sum, other, term, row, byte, outputs, before-row, draw-index, drawn, product-need, value, product}
 use Rattle.isw.proofs.RunningLaws.{running-cong}
 use Rattle.isw.proofs.PlaceLaws.{skip-lt, skip-ne}
-use Rattle.masking.specs.declared.Pair.{Pair}
-use Rattle.masking.specs.Steps.{pair-of, Terms}
+use Rattle.masking.specs.Steps.{backs, Terms, Terms-before}
 
 -- ---- the rows of pairs on the tape: each starts where the one before it ends
 
@@ -42,13 +42,16 @@ module _ (n : ℕ) (a b ts : List ℕ) where
 
   -- ---- pair by pair
 
-  -- a pair's bytes are its two terms
-  pub pair-terms : (i j k : ℕ) (p : Pair) → i < j → k ≡ before-row n i + (j - (i + 1)) → p ≡ pair-of (at ts k) (at a i) (at b j) (at a j) (at b i)
-      → (p .drawn ≡ r i j) × (p .back ≡ r j i)
-  unfolding term other half-sum drawn draw-index
-  pair-terms i j k p h e q =
-      let x : k ≡ before-row n i + (j - suc i) = omega arith in
-      rw (q, x, lt-ltb i j h, le-ltb j i (omega arith)) (refl, refl)
+  -- the draws of a row and what stands in its row of backs are its terms
+  pub row-terms : (i m v : ℕ) (tape : List ℕ) → tape ≡ drop (before-row n i) ts → v ≡ backs a b tape i m
+      → (at tape m ≡ r i (i + 1 + m)) × (v ≡ r (i + 1 + m) i)
+  unfolding term other half-sum drawn draw-index at
+  row-terms i m v tape f q =
+      let e : at tape m ≡ at ts (before-row n i + m) = rw f (getD-drop (before-row n i) ts m 0) in
+      let x : i + 1 + m - suc i ≡ m = omega arith in (
+        rw (lt-ltb i (i + 1 + m) (omega arith), x) e,
+        rw (le-ltb (i + 1 + m) i (omega arith), x) (q ∙ ap (λ (z : ℕ). bitXor (bitXor z (times (at a i) (at b (i + 1 + m)))) (times (at a (i + 1 + m)) (at b i))) e),
+      )
 
   -- the terms of the pairs before lim, by 9 * i + j, stand in the table
   abbrev pub Filled : (lim : ℕ) (table : List ℕ) → Type 0
@@ -80,12 +83,23 @@ module _ (n : ℕ) (a b ts : List ℕ) where
             getD-set-same m₁ (j * 9 + i) w 0 (omega (arith, length-set m (i * 9 + j) v)) ∙ e .1,
           )
 
-  -- once all pairs are in, each r(i, j) stands at i * 9 + j
-  pub filled-all : (m : List ℕ) → Filled (9 * n) m → n ≤ 9 → Terms n a b ts m
-  filled-all m F l = record {
+  -- a row at its start, and at its end
+  pub filled-row : (i : ℕ) (m : List ℕ) → n ≤ 9 → Terms-before n a b ts i m → Filled (9 * i + (i + 1 + 0)) m
+  filled-row i m l t i′ j′ g₁ g₂ g₃ = t .both i′ j′ (omega arith) g₁ g₂
+
+  pub filled-next : (i w : ℕ) (m : List ℕ) → n ≤ 9 → n ≡ i + 1 + w → Filled (9 * i + (i + 1 + w)) m → Terms-before n a b ts (i + 1) m
+  filled-next i w m l e F = record { both = λ k j h₁ h₂ h₃. F k j h₂ h₃ (omega arith) }
+
+  -- before the first row
+  pub filled-none : (m : List ℕ) → Terms-before n a b ts 0 m
+  filled-none m = record { both = λ k j h₁ h₂ h₃. absurd (omega arith) }
+
+  -- once all rows are in, each r(i, j) stands at i * 9 + j
+  pub filled-all : (m : List ℕ) → Terms-before n a b ts n m → Terms n a b ts m
+  filled-all m F = record {
     at-each = λ i j h₁ h₂ d. elim (decLt i j) [
-      | yes h ↦ F i j h h₂ (omega arith) .0
-      | no h ↦ F j i (omega arith) h₁ (omega arith) .1
+      | yes h ↦ F .both i j h₁ h h₂ .0
+      | no h ↦ F .both j i h₂ (omega arith) h₁ .1
     ];
   }
 

@@ -1,10 +1,10 @@
 -- A function over each entry of a list, the first entry first, in place or into another list. Assumes nothing.
 use mathlib.Core.Path.{_≡_, refl, sym, ap, _∙_}
-use mathlib.Core.List.{List, map}
+use mathlib.Core.List.{List, [], _∷_, map}
 use Prim.Native.Nat.{ℕ, _+_, _<_}
 use lib.ListN.{length, getD, set}
-use Rattle.xor.specs.Lists.{at, tab}
-use Rattle.xor.proofs.ListsLaws.{map-tab, tab-at}
+use Rattle.xor.specs.Lists.{at, runs, tab}
+use Rattle.xor.proofs.ListsLaws.{getD-tab, map-tab, tab-at}
 use Rattle.shares.proofs.WriteLaws.{over, over-none, over-more, over-all, over-at}
 
 module _ (f : ℕ → ℕ) where
@@ -28,6 +28,17 @@ module _ (f : ℕ → ℕ) where
   unfolding each at
   each-more k v y xs e w h = over-more _ k v y xs e (w ∙ ap f (over-at _ k y xs e h)) h
 
+  -- the same where the entry is named otherwise
+  pub each-named : (k i v : ℕ) (y xs : List ℕ) → i ≡ k → y ≡ each k xs → v ≡ f (getD y i 0) → k < length xs → set y i v ≡ each (k + 1) xs
+  each-named k i v y xs n e w h = rw n (each-more k v y xs e (rw n at w) h)
+
   pub each-all : (k : ℕ) (y xs : List ℕ) → y ≡ each k xs → k ≡ length xs → y ≡ map f xs
   unfolding each
   each-all k y xs e h = over-map k y xs xs e h refl
+
+-- a list of the numbers 0 to 8
+pub numbered : (k : ℕ) → k < 9 → getD (0 ∷ 1 ∷ 2 ∷ 3 ∷ 4 ∷ 5 ∷ 6 ∷ 7 ∷ 8 ∷ []) k 0 ≡ k
+numbered k h = ap (λ (l : List ℕ). getD l k 0) all ∙ getD-tab (λ q. q) 9 k 0 h
+  where
+    all : (0 ∷ 1 ∷ 2 ∷ 3 ∷ 4 ∷ 5 ∷ 6 ∷ 7 ∷ 8 ∷ []) ≡ tab (λ q. q) 9
+    all = unfold tab runs in refl

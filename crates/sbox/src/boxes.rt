@@ -14,12 +14,16 @@ use gf256::Logs;
 use shares::Answer;
 use shares::Refusal;
 
-// The affine map of each share.
+// The affine map of each share. The shares are taken by a list of their numbers: a compiler that does not know them for neighbours has no use for
+// a register with two of them in it, whose shifts would bring bits of the one into the other's byte.
 fn affine_all(which: Direction, x: &mut [u8])
+    requires { ⌜ length (now x) ≤ 9 ⌝ }
     ensures { λ _. ⌜ now (x .exit) ≡ map (affine-of which) (now (x .entry)) ⌝ }
 {
+    let numbers = [0u8, 1, 2, 3, 4, 5, 6, 7, 8];
     for k in 0..x.len() {
-        x[k] = gf256::affine(which, x[k]);
+        let i = numbers[k] as usize;
+        x[i] = gf256::affine(which, x[i]);
     }
 }
 
@@ -35,7 +39,7 @@ fn correct(which: Direction, d: usize, x: &mut [u8])
 
 // The affine map of a byte in shares.
 fn affine_shares(which: Direction, d: usize, x: &mut [u8])
-    requires { ⌜ 0 < length (now x) ⌝ }
+    requires { ⌜ (0 < length (now x)) × (length (now x) ≤ 9) ⌝ }
     ensures { λ _. ⌜ now (x .exit) ≡ Box.affine-shares which d (now (x .entry)) ⌝ }
 {
     affine_all(which, x);

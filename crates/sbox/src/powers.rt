@@ -19,13 +19,13 @@ fn raise(logs: &Logs, antilogs: &Antilogs, which: Exponent, x: &[u8], z: &mut [u
     ensures { λ _. ⌜ now (z .exit) ≡ map (raised-to which) (now (x .entry)) ⌝ }
 {
     for k in 0..x.len() {
-        z[k] = gf256::raised(logs, antilogs, which, x[k]);
+        z[k] = gf256::powers::raised(logs, antilogs, which, x[k]);
     }
 }
 
 // z = x², refreshed. Answers with how many bytes were drawn.
 fn make_z(logs: &Logs, antilogs: &Antilogs, d: usize, x: &[u8], tape: &[u8], z: &mut [u8]) -> usize
-    requires { ⌜ (length (now x) ≡ d + 1) × (length (now z) ≡ d + 1) × (Refresh.refresh-need d ≤ length (now tape)) × Tables (now logs) (now antilogs) ⌝ }
+    requires { ⌜ (d ≤ 8) × (length (now x) ≡ d + 1) × (length (now z) ≡ d + 1) × (Refresh.refresh-need d ≤ length (now tape)) × Tables (now logs) (now antilogs) ⌝ }
     ensures { λ r. ⌜ (r ≡ Refresh.refresh-need d) × (now (z .exit) ≡ Box.stage-z d (now (x .entry)) (now (tape .entry))) ⌝ }
 {
     raise(logs, antilogs, Exponent::Two, x, z);
@@ -34,7 +34,7 @@ fn make_z(logs: &Logs, antilogs: &Antilogs, d: usize, x: &[u8], tape: &[u8], z: 
 
 // w = y⁴, refreshed. Answers with how many bytes were drawn.
 fn make_w(logs: &Logs, antilogs: &Antilogs, d: usize, y: &[u8], tape: &[u8], w: &mut [u8]) -> usize
-    requires { ⌜ (length (now y) ≡ d + 1) × (length (now w) ≡ d + 1) × (Refresh.refresh-need d ≤ length (now tape)) × Tables (now logs) (now antilogs) ⌝ }
+    requires { ⌜ (d ≤ 8) × (length (now y) ≡ d + 1) × (length (now w) ≡ d + 1) × (Refresh.refresh-need d ≤ length (now tape)) × Tables (now logs) (now antilogs) ⌝ }
     ensures { λ r. ⌜ (r ≡ Refresh.refresh-need d) × (now (w .exit) ≡ Box.stage-w d (now (y .entry)) (now (tape .entry))) ⌝ }
 {
     raise(logs, antilogs, Exponent::Four, y, w);

@@ -127,3 +127,49 @@ refresh-more k i x xs ts e h =
 pub refresh-none : (xs ts : List ℕ) → xs ≡ refreshed 0 xs ts
 unfolding refreshed refresh-pairs tab runs stirred
 refresh-none xs ts = refl
+
+-- ---- the same with share 0 apart, which goes its own way and is put back at the end
+
+refreshed-next : (k : ℕ) (xs ts : List ℕ) → refreshed (k + 1) xs ts ≡ into (into (refreshed k xs ts) 0 (at ts k)) (suc k) (at ts k)
+unfolding into at
+refreshed-next k xs ts = sym (refresh-more k (suc k) (refreshed k xs ts) xs ts refl refl)
+
+-- share 0
+first-into : (l : List ℕ) (t k : ℕ) → 0 < length l → bitXor (at l 0) t ≡ at (into (into l 0 t) (suc k) t) 0
+unfolding into at
+first-into [] t k h = absurd (omega arith)
+first-into (x ∷ l) t k h = refl
+
+pub first-next : (k s : ℕ) (xs ts : List ℕ) → 0 < length xs → s ≡ at (refreshed k xs ts) 0 → bitXor s (at ts k) ≡ at (refreshed (k + 1) xs ts) 0
+first-next k s xs ts h e =
+    rw (e, refreshed-next k xs ts) (first-into (refreshed k xs ts) (at ts k) k (omega (arith, length-refreshed k xs ts)))
+
+pub first-start : (xs ts : List ℕ) → at xs 0 ≡ at (refreshed 0 xs ts) 0
+first-start xs ts = ap (λ (l : List ℕ). at l 0) (refresh-none xs ts)
+
+-- the others
+kept : (l : List ℕ) → l ≡ set l 0 (at l 0)
+unfolding at
+kept [] = refl
+kept (x ∷ l) = refl
+
+pub rest-none : (xs ts : List ℕ) → xs ≡ set (refreshed 0 xs ts) 0 (at xs 0)
+rest-none xs ts = rw (sym (refresh-none xs ts)) (kept xs)
+
+rest-into : (l : List ℕ) (t k v : ℕ) → set (set l 0 v) (suc k) (bitXor (at (set l 0 v) (suc k)) t) ≡ set (into (into l 0 t) (suc k) t) 0 v
+unfolding into at
+rest-into [] t k v = refl
+rest-into (x ∷ l) t k v = refl
+
+pub rest-next : (k i v : ℕ) (x xs ts : List ℕ) → x ≡ set (refreshed k xs ts) 0 v → i ≡ suc k
+    → set x i (bitXor (at x i) (at ts k)) ≡ set (refreshed (k + 1) xs ts) 0 v
+rest-next k i v x xs ts e h = rw (e, h, refreshed-next k xs ts) (rest-into (refreshed k xs ts) (at ts k) k v)
+
+-- both together
+put-back : (l : List ℕ) (v : ℕ) → set (set l 0 v) 0 (at l 0) ≡ l
+unfolding at
+put-back [] v = refl
+put-back (x ∷ l) v = refl
+
+pub rest-end : (k v w : ℕ) (x xs ts : List ℕ) → x ≡ set (refreshed k xs ts) 0 v → w ≡ at (refreshed k xs ts) 0 → set x 0 w ≡ refreshed k xs ts
+rest-end k v w x xs ts e f = rw (e, f) (put-back (refreshed k xs ts) v)

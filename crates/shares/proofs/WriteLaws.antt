@@ -6,10 +6,10 @@ use native.Mathlib.Nat.{sub-zero}
 use native.Mathlib.Numerals.{add-one}
 use native.Mathlib.Omega.{arith}
 use borrow.Rule.Slice.PartMut.{putMid}
-use lib.ListN.{length, take, drop, getD, set, length-drop, length-append, drop-of-length-le}
+use lib.ListN.{length, take, drop, getD, set, length-drop, length-append, drop-of-length-le, List·getD-append}
 use lib.Seq.{length-take-le, take-all, take-at, drop-at, drop-drop, drop-cons, set-at, getD-at}
-use Rattle.xor.specs.Lists.{runs, tab}
-use Rattle.xor.proofs.ListsLaws.{length-tab, tab-last}
+use Rattle.xor.specs.Lists.{at, runs, tab}
+use Rattle.xor.proofs.ListsLaws.{length-tab, getD-tab, tab-last}
 use Rattle.shares.specs.Writes.{front}
 
 -- ---- parts that are read
@@ -53,6 +53,12 @@ pub over-all : (f : ℕ → ℕ) (k : ℕ) (y o : List ℕ) → y ≡ over f k o
 unfolding over
 over-all f k y o e h = rw (e, drop-of-length-le o {i = k} (omega arith), append-nil) refl
 
+-- what stood at the start goes, once that is written over
+pub over-first : (f : ℕ → ℕ) (k v : ℕ) (o : List ℕ) → over f (suc k) (set o 0 v) ≡ over f (suc k) o
+unfolding over
+over-first f k v [] = refl
+over-first f k v (x ∷ o) = refl
+
 -- what is not written over yet is as it was
 pub over-at : (f : ℕ → ℕ) (k : ℕ) (y o : List ℕ) → y ≡ over f k o → k < length o → getD y k 0 ≡ getD o k 0
 unfolding over
@@ -71,6 +77,11 @@ front-all vs o h = rw (drop-of-length-le o {i = length vs} (omega arith), append
 pub over-front : (f : ℕ → ℕ) (k : ℕ) (o : List ℕ) → over f k o ≡ front (tab f k) o
 unfolding over front
 over-front f k o = rw length-tab refl
+
+-- what stands over the front
+pub at-front : (f : ℕ → ℕ) (w m : ℕ) (y o : List ℕ) → y ≡ front (tab f w) o → m < w → at y m ≡ f m
+unfolding front at
+at-front f w m y o e h = rw e (List·getD-append (tab f w) _ 0 m (rw length-tab h) ∙ getD-tab f w m 0 h)
 
 -- what a callee wrote over the front of the part from k on, behind the k bytes that are written already
 pub front-part : (k : ℕ) (y q o vs before next : List ℕ) → y ≡ front before o → length before ≡ k → k + length vs ≤ length o

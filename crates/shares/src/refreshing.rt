@@ -2,8 +2,10 @@
 ghost use mathlib.Core.Path.{_≡_};
 ghost use Prim.Native.Nat.{_+_, _≤_, _<_};
 ghost use lib.ListN.{length};
+ghost use Rattle.xor.specs.Lists.{at, tab};
 ghost use Rattle.shares.specs.Outcome.{outcome};
 ghost use Rattle.shares.specs.Refresh;
+ghost use Rattle.shares.specs.Writes.{front};
 ghost use Rattle.shares.specs.Calls.{Refresh-outcome};
 use crate::Answer;
 use crate::Refusal;
@@ -15,19 +17,33 @@ pub fn refresh_need(d: usize) -> usize
     d
 }
 
-// For i = 1 to d: draw t, XOR it into share 0, then into share i. Answers with how many bytes were drawn.
-pub fn refresh_core(d: usize, tape: &[u8], x: &mut [u8]) -> usize
-    requires { ⌜ (d < length (now x)) × (Refresh.refresh-need d ≤ length (now tape)) ⌝ }
-    ensures { λ r. ⌜ (r ≡ Refresh.refresh-need d) × (now (x .exit) ≡ Refresh.refreshed d (now (x .entry)) (now (tape .entry))) ⌝ }
+// For i = 1 to d: draw t, XOR it into share 0, then into share i. What share 0 is on the way is left in first, and read back from there at the end:
+// so a compiler has no draws to sum up apart. Answers with how many bytes were drawn.
+fn refresh_with(d: usize, tape: &[u8], first: &mut [u8], x: &mut [u8]) -> usize
+    requires { ⌜ (d < length (now x)) × (d < length (now first)) × (Refresh.refresh-need d ≤ length (now tape)) ⌝ }
+    ensures { λ r. ⌜ (r ≡ Refresh.refresh-need d) × (now (first .exit) ≡ front (tab (λ k. at (Refresh.refreshed k (now (x .entry)) (now (tape .entry))) 0) (d + 1)) (now (first .entry))) × (now (x .exit) ≡ Refresh.refreshed d (now (x .entry)) (now (tape .entry))) ⌝ }
 {
     let mut drawn: usize = 0;
+    let mut s = x[0];
+    first[0] = s;
     for i in 1..d + 1 {
         let t = tape[drawn];
         drawn += 1;
-        x[0] = x[0] ^ t;
+        s = s ^ t;
+        first[i] = s;
         x[i] = x[i] ^ t;
     }
+    x[0] = first[d];
     drawn
+}
+
+// The refresh of the shares of a byte. Answers with how many bytes were drawn.
+pub fn refresh_core(d: usize, tape: &[u8], x: &mut [u8]) -> usize
+    requires { ⌜ (d ≤ 8) × (d < length (now x)) × (Refresh.refresh-need d ≤ length (now tape)) ⌝ }
+    ensures { λ r. ⌜ (r ≡ Refresh.refresh-need d) × (now (x .exit) ≡ Refresh.refreshed d (now (x .entry)) (now (tape .entry))) ⌝ }
+{
+    let mut first = [0u8; 9];
+    refresh_with(d, tape, &mut first, x)
 }
 
 pub fn refresh(order: usize, input: &[u8], tape: &[u8], output: &mut [u8]) -> Answer

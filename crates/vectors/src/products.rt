@@ -14,7 +14,7 @@ fn row(logs: &Logs, antilogs: &Antilogs, a: u8, start: Tally) -> Tally
         let b = (k % 256) as u8;
         t = counts::counted(
             t,
-            gf256::table_times(logs, antilogs, a, b) == gf256::times(a, b),
+            gf256::table_product::table_times(logs, antilogs, a, b) == gf256::times(a, b),
         );
     }
     t

@@ -3,7 +3,6 @@ use mathlib.Core.Path.{_≡_, refl}
 use Prim.Native.Nat.{_≤_, _-_}
 use native.Mathlib.Omega.{arith}
 use borrow.Author.Needs.{needs}
-use denote.Ref.{now}
 use lib.ListN.{length, length-set}
 use Rattle.xor.specs.Lists.{at}
 use Rattle.gf256.specs.Field.{times}
@@ -12,14 +11,14 @@ use Rattle.masking.proofs.product.start_sums.Statement.{statement}
 use Rattle.masking.proofs.product.start_sums.Tie as tie
 
 abbrev Inv-loop : tie.InvT-loop
-Inv-loop logs antilogs a b output₀ i₀ i-end output i =
-    (i ≤ i-end) × (i-end ≡ length output₀) × (output ≡ over (λ k. times (at a k) (at b k)) i output₀) × (length output ≡ length output₀)
+Inv-loop logs antilogs n a b output₀ i₀ output i =
+    (i ≤ n) × (output ≡ over (λ k. times (at a k) (at b k)) i output₀) × (length output ≡ length output₀)
 
 abbrev μ-loop : tie.MeasureT-loop
-μ-loop logs antilogs a b output₀ i₀ i-end output i = i-end - i
+μ-loop logs antilogs n a b output₀ i₀ output i = n - i
 
 loop-holds : tie.Need-loop-holds Inv-loop μ-loop
-loop-holds c = (search needs, refl, over-none _ _, refl)
+loop-holds c = (search needs, over-none _ _, refl)
 
 shared-slice-read-table-times : tie.Need-shared-slice-read-table-times Inv-loop μ-loop
 shared-slice-read-table-times c = search needs
@@ -41,15 +40,15 @@ loop-less c = search needs
 
 loop-again : tie.Need-loop-again Inv-loop μ-loop
 unfolding at
-loop-again c = (omega arith, search needs, over-more _ _ _ _ _ (c .before .before .before .before .loop .inv .2) (c .table-times .ensures) (omega arith), simp length-set (omega arith))
+loop-again c = (omega arith, over-more _ _ _ _ _ (c .before .before .before .before .loop .inv .1) (c .table-times .ensures) (omega arith), simp length-set (omega arith))
 
 same-length : tie.Need-same-length Inv-loop μ-loop
 same-length c = search needs
 
 returns : tie.Need-returns Inv-loop μ-loop
 returns c =
-    let e : c .before .loop .i ≡ length (now (c .before .before .before .before .before .args .output)) = omega arith in
-    over-all _ _ _ _ (rw e at (c .before .loop .inv .2)) refl
+    let e : c .before .loop .i ≡ c .before .before .before .before .before .args .n = omega arith in
+    over-all _ _ _ _ (rw e at (c .before .loop .inv .1)) (omega arith)
 
 pub start-sums-spec : {M : Type 1} → statement M
 start-sums-spec =

@@ -1,6 +1,6 @@
 -- `masking::sheet::sheet_rows` meets its contract. Assumes nothing.
-use mathlib.Core.Path.{_≡_, refl, sym, _∙_}
-use Prim.Native.Nat.{_≤_, _+_, _*_, _-_}
+use mathlib.Core.Path.{_≡_, refl, ap, sym, _∙_}
+use Prim.Native.Nat.{ℕ, _≤_, _+_, _*_, _-_}
 use native.Mathlib.Omega.{arith}
 use borrow.Author.Needs.{needs}
 use denote.Ref.{now}
@@ -8,22 +8,25 @@ use lib.ListN.{length, take, drop}
 use Rattle.xor.specs.Lists.{runs}
 use Rattle.isw.specs.Place.{before-row}
 use Rattle.shares.specs.Writes.{front}
-use Rattle.shares.proofs.WriteLaws.{front-part, length-part-rest}
-use Rattle.masking.proofs.TermsLaws.{before-row-next, before-row-le}
+use Rattle.shares.proofs.WriteLaws.{front-part, part-rest, length-part-rest}
+use Rattle.masking.specs.Steps.{Terms-before}
+use Rattle.masking.proofs.TermsLaws.{before-row-next, before-row-le, filled-none, filled-all}
 use Rattle.masking.proofs.SheetParts.{length-row-bytes, pairs-before, length-pairs, pairs-more}
 use Rattle.masking.proofs.sheet.sheet_rows.Statement.{statement}
 use Rattle.masking.proofs.sheet.sheet_rows.Tie as tie
 
 abbrev Inv-loop : tie.InvT-loop
-Inv-loop logs antilogs n a b tape out₀ drawn₀ i₀ out drawn i =
+Inv-loop logs antilogs n a b tape cross₀ half₀ crossed₀ back₀ table₀ out₀ drawn₀ i₀ cross half crossed back table out drawn i =
     (i ≤ n) × (drawn ≡ before-row n i) × (before-row n i ≤ before-row n n) × (out ≡ front (pairs-before n a b tape i) out₀) × (length out ≡ length out₀)
+    × (length cross ≡ length cross₀) × (length half ≡ length half₀) × (length crossed ≡ length crossed₀) × (length back ≡ length back₀) × (length table ≡ 81)
+    × Terms-before n a b tape i table
 
 abbrev μ-loop : tie.MeasureT-loop
-μ-loop logs antilogs n a b tape out₀ drawn₀ i₀ out drawn i = n - i
+μ-loop logs antilogs n a b tape cross₀ half₀ crossed₀ back₀ table₀ out₀ drawn₀ i₀ cross half crossed back table out drawn i = n - i
 
 loop-holds : tie.Need-loop-holds Inv-loop μ-loop
 unfolding front before-row runs
-loop-holds c = (search needs, refl, search needs, refl, refl)
+loop-holds c = (search needs, refl, search needs, refl, refl, refl, refl, refl, refl, search needs, filled-none _ _ _ _ _)
 
 add-w : tie.Need-add-w Inv-loop μ-loop
 add-w c = search needs
@@ -54,16 +57,19 @@ part-sheet-row-end-2 c = search needs
 
 sheet-row-requires : tie.Need-sheet-row-requires Inv-loop μ-loop
 sheet-row-requires c κs =
-    let s = c .before .before .before .before .before .before .before .before .args in
-    let l = c .before .before .before .loop in
+    let s = c .before .before .before .before .before .before .before .before .before .before .before .before .before .before .before .before .before .before .args in
+    let l = c .before .before .before .before .before .before .before .before .loop in
     let x = before-row-next (s .n) (l .i) in
     let u = before-row-le (s .n) (l .i) (omega arith) in
     let w : s .n - (l .i + 1) ≤ length (take (length (now (s .tape)) - l .drawn) (drop (l .drawn) (now (s .tape)))) = rw (length-part-rest (now (s .tape)) (l .drawn)) (omega arith) in
     let o : 5 * (s .n - (l .i + 1)) ≤ length (take (length (l .out) - 5 * l .drawn) (drop (5 * l .drawn) (l .out))) = rw (length-part-rest (l .out) (5 * l .drawn)) (omega arith) in
-    (omega arith, omega arith, omega arith, w, o, search needs)
+    (omega arith, omega arith, omega arith, w, omega arith, omega arith, omega arith, omega arith, search needs, o, search needs)
 
 add-drawn : tie.Need-add-drawn Inv-loop μ-loop
-add-drawn c = omega (arith, before-row-next (c .before .before .before .before .before .before .before .before .before .before .before .args .n) (c .before .before .before .before .before .before .loop .i), before-row-le (c .before .before .before .before .before .before .before .before .before .before .before .args .n) (c .before .before .before .before .before .before .loop .i) (omega arith))
+add-drawn c =
+    let n = c .before .before .before .before .before .before .before .before .before .before .before .before .before .before .before .before .before .before .before .before .before .before .before .before .before .before .before .before .before .before .before .args .n in
+    let i = c .before .before .before .before .before .before .before .before .before .before .before .before .before .before .before .before .before .before .before .before .before .loop .i in
+    omega (arith, c .before .before .before .before .before .before .before .before .before .before .before .before .before .before .before .before .before .before .before .before, c .before .before .before .before .before .before .before .before .before .before .before .before .sheet-row .ensures .0, before-row-next n i, before-row-le n i (omega (arith, c .before .before .before .before .before .before .before .before .before .before .before .before .before .before .before .before .before .before .before .before)))
 
 add-i : tie.Need-add-i Inv-loop μ-loop
 add-i c = search needs
@@ -73,8 +79,10 @@ loop-less c = search needs
 
 loop-again : tie.Need-loop-again Inv-loop μ-loop
 loop-again c =
-    let l = c .before .before .before .before .before .before .loop in
-    let s = c .before .before .before .before .before .before .before .before .before .before .before .args in
+    let l = c .before .before .before .before .before .before .before .before .before .before .before .before .before .before .before .before .before .before .before .before .before .loop in
+    let s = c .before .before .before .before .before .before .before .before .before .before .before .before .before .before .before .before .before .before .before .before .before .before .before .before .before .before .before .before .before .before .before .args in
+    let t = c .before .before .before .before .before .before .before .before .before .before .before .before .sheet-row .ensures in
+    let k = t .0 in
     let a = now (s .a) in
     let b = now (s .b) in
     let ts = now (s .tape) in
@@ -86,15 +94,39 @@ loop-again c =
       omega arith,
       omega arith,
       omega arith,
-      front-part _ _ _ _ _ _ _ (l .inv .3) (r ∙ sym h) (omega arith) (c .before .before .sheet-row .ensures) (pairs-more (s .n) a b ts (l .i) (l .drawn) (l .inv .1)),
+      front-part _ _ _ _ _ _ _ (l .inv .3) (r ∙ sym h) (omega (arith, c .before .before .before .before .before .before .before .before .before .before .before .before .before .before .before .before .before .before .before .before, r, w, u, x, h)) (t .1) (pairs-more (s .n) a b ts (l .i) (l .drawn) (l .inv .1)),
       c .before .out .given .1 ∙ l .inv .4,
+      c .before .before .before .before .before .before .before .before .before .before .before .cross .given ∙ l .inv .5,
+      c .before .before .before .before .before .before .before .before .before .half .given ∙ l .inv .6,
+      c .before .before .before .before .before .before .before .crossed .given ∙ l .inv .7,
+      c .before .before .before .before .before .back .given ∙ l .inv .8,
+      c .before .before .before .table .given ∙ l .inv .9,
+      t .2 (s .n) ts (omega arith) (part-rest ts (l .drawn) ∙ ap (λ (k : ℕ). drop k ts) (l .inv .1)) (l .inv .10),
     )
 
 same-length : tie.Need-same-length Inv-loop μ-loop
 same-length c = search needs
 
+same-length-2 : tie.Need-same-length-2 Inv-loop μ-loop
+same-length-2 c = search needs
+
+same-length-3 : tie.Need-same-length-3 Inv-loop μ-loop
+same-length-3 c = search needs
+
+same-length-4 : tie.Need-same-length-4 Inv-loop μ-loop
+same-length-4 c = search needs
+
+same-length-5 : tie.Need-same-length-5 Inv-loop μ-loop
+same-length-5 c = search needs
+
+same-length-6 : tie.Need-same-length-6 Inv-loop μ-loop
+same-length-6 c = search needs
+
 returns : tie.Need-returns Inv-loop μ-loop
-returns c = let e : c .before .loop .i ≡ c .before .before .before .before .before .before .args .n = omega arith in rw e at (c .before .loop .inv .3)
+returns c =
+    let l = c .before .loop in
+    let e : l .i ≡ c .before .before .before .before .before .before .before .before .before .before .before .args .n = omega arith in
+    (l .inv .1 ∙ ap (before-row (c .before .before .before .before .before .before .before .before .before .before .before .args .n)) e, rw e at (l .inv .3), filled-all _ _ _ _ _ (rw e at (l .inv .10)))
 
 pub sheet-rows-spec : {M : Type 1} → statement M
 sheet-rows-spec =
@@ -118,4 +150,9 @@ sheet-rows-spec =
     loop-less
     loop-again
     same-length
+    same-length-2
+    same-length-3
+    same-length-4
+    same-length-5
+    same-length-6
     returns)

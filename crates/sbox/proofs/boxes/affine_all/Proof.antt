@@ -1,31 +1,38 @@
 -- `sbox::boxes::affine_all` meets its contract. Assumes nothing.
 use mathlib.Core.Path.{_≡_, refl}
-use Prim.Native.Nat.{_≤_, _-_}
+use Prim.Native.Nat.{ℕ, _≤_, _<_, _-_}
 use native.Mathlib.Omega.{arith}
 use borrow.Author.Needs.{needs}
-use lib.ListN.{length, length-set}
+use lib.ListN.{length, getD, length-set}
 use Rattle.gf256.specs.Directions.{affine-of}
-use Rattle.sbox.proofs.EachLaws.{each, each-none, each-more, each-all}
+use Rattle.sbox.proofs.EachLaws.{each, each-none, each-named, each-all, numbered}
 use Rattle.sbox.proofs.boxes.affine_all.Statement.{statement}
 use Rattle.sbox.proofs.boxes.affine_all.Tie as tie
 
 abbrev Inv-loop : tie.InvT-loop
-Inv-loop which x₀ k₀ k-end x k = (k ≤ k-end) × (k-end ≡ length x₀) × (x ≡ each (affine-of which) k x₀) × (length x ≡ length x₀)
+Inv-loop which x₀ numbers k₀ k-end x k =
+    (k ≤ k-end) × (k-end ≡ length x₀) × (x ≡ each (affine-of which) k x₀) × (length x ≡ length x₀) × (length x₀ ≤ 9) × ((q : ℕ) → q < 9 → getD numbers q 0 ≡ q)
 
 abbrev μ-loop : tie.MeasureT-loop
-μ-loop which x₀ k₀ k-end x k = k-end - k
+μ-loop which x₀ numbers k₀ k-end x k = k-end - k
 
 loop-holds : tie.Need-loop-holds Inv-loop μ-loop
-loop-holds c = (search needs, refl, each-none _ _, refl)
+loop-holds c = (search needs, refl, each-none _ _, refl, search needs, numbered)
+
+array-read-i : tie.Need-array-read-i Inv-loop μ-loop
+array-read-i c = search needs
+
+cast-i : tie.Need-cast-i Inv-loop μ-loop
+cast-i c = omega (arith, c, c .before .loop .inv .5 (c .before .loop .k) (omega (arith, c)))
 
 slice-read-affine : tie.Need-slice-read-affine Inv-loop μ-loop
-slice-read-affine c = search needs
+slice-read-affine c = omega (arith, c .before, c .before .before .loop .inv .5 (c .before .before .loop .k) (omega (arith, c .before)))
 
 affine-requires : tie.Need-affine-requires Inv-loop μ-loop
 affine-requires c κs = search needs
 
 slice-write-x : tie.Need-slice-write-x Inv-loop μ-loop
-slice-write-x c = search needs
+slice-write-x c = omega (arith, c .before .before, c .before .before .before .loop .inv .5 (c .before .before .before .loop .k) (omega (arith, c .before .before)))
 
 add-k : tie.Need-add-k Inv-loop μ-loop
 add-k c = search needs
@@ -34,7 +41,10 @@ loop-less : tie.Need-loop-less Inv-loop μ-loop
 loop-less c = search needs
 
 loop-again : tie.Need-loop-again Inv-loop μ-loop
-loop-again c = (omega arith, search needs, each-more _ _ _ _ _ (c .before .before .before .loop .inv .2) (c .affine .ensures) (omega arith), simp length-set (omega arith))
+loop-again c =
+    let l = c .before .before .before .loop in
+    let n = l .inv .5 (l .k) (omega (arith, c .before .before)) in
+    (omega arith, search needs, each-named _ _ _ _ _ _ n (l .inv .2) (c .affine .ensures) (omega (arith, c .before .before)), simp length-set (omega arith), search needs, l .inv .5)
 
 same-length : tie.Need-same-length Inv-loop μ-loop
 same-length c = search needs
@@ -49,6 +59,8 @@ affine-all-spec =
     Inv-loop
     μ-loop
     loop-holds
+    array-read-i
+    cast-i
     slice-read-affine
     affine-requires
     slice-write-x

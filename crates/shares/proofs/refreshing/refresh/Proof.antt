@@ -62,7 +62,7 @@ refresh-core-requires c κs =
     let b : length (now (v .output)) ≡ v .order + 1 = eqb-true _ _ (k .2) in
     let l : length (c .before .before .before .put .last .1 .0) ≡ length (now (v .output)) = c .before .before .before .put .kept .1 .0 in
     let h : v .order < length (c .before .before .before .put .last .1 .0) = omega arith in
-    (h, rw (c .before .before .before .before .before .before .before .before .refresh-need .ensures) at (k .3))
+    (served-bounds (v .order) (sym (c .before .before .before .before .before .before .before .before .before .before .unserved .ensures) ∙ c .before .before .before .before .before .before .before .before .before .if1 .left) .1, h, rw (c .before .before .before .before .before .before .before .before .refresh-need .ensures) at (k .3))
 
 same-length : tie.Need-same-length
 same-length c = search needs
