@@ -1,6 +1,8 @@
 /* The rounds of steps.h in both directions, from a key and from prepared keys. */
 #include "schedule.h"
 
+#include "notes.h"
+
 #include <string.h>
 
 /* A state in shares: all of share 0, then all of share 1, and so on. */
@@ -8,9 +10,13 @@ typedef uint8_t state_t[MAX_SHARES][16];
 
 static void add_round_key(size_t d, state_t state, schedule_t w, size_t round)
 {
+	note_where("round key");
 	for (size_t s = 0; s <= d; s++)
-		for (size_t k = 0; k < 16; k++)
-			state[s][k] ^= w[s][4 * round + k / 4][k % 4];
+		for (size_t k = 0; k < 16; k++) {
+			uint8_t byte = note(w[s][4 * round + k / 4][k % 4], "byte %zu of share %zu", k, s);
+
+			state[s][k] = note(note(state[s][k], "state byte %zu of share %zu", k, s) ^ byte, "added to byte %zu of share %zu", k, s);
+		}
 }
 
 /* Row by row: bytes 0, 4, 8, 12, 1, 5, and so on. */
@@ -27,9 +33,10 @@ static void shift_rows(uint8_t *s, size_t times)
 	uint8_t old[16];
 
 	memcpy(old, s, 16);
+	note_where("ShiftRows or its inverse");
 	for (size_t row = 0; row < 4; row++)
 		for (size_t column = 0; column < 4; column++)
-			s[row + 4 * column] = old[row + 4 * ((column + times * row) % 4)];
+			s[row + 4 * column] = note(old[row + 4 * ((column + times * row) % 4)], "byte %zu", row + 4 * column);
 }
 
 /* FIPS 197, MixColumns and InvMixColumns: the first rows of their matrices. Each further row is the one above, turned right by one. */
@@ -41,6 +48,8 @@ static void mix_columns(uint8_t *s, const uint8_t factor[4])
 	uint8_t old[16];
 
 	memcpy(old, s, 16);
+	for (size_t c = 0; c < 4; c++)
+		note_column(old + 4 * c);
 	for (size_t k = 0; k < 16; k++) {
 		s[k] = 0;
 		for (size_t m = 0; m < 4; m++)

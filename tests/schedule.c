@@ -1,6 +1,8 @@
 /* The key schedule over shares. Words are numbered from 0, as in document 01. */
 #include "schedule.h"
 
+#include "notes.h"
+
 #include <string.h>
 
 /* A word in shares: all of share 0, then all of share 1, and so on. */
@@ -16,6 +18,10 @@ static void sub_word(size_t d, words_t word, struct tape *t)
 static void turned_word(size_t d, words_t word, uint8_t rcon, struct tape *t)
 {
 	sub_word(d, word, t);
+	note_where("SubWord");
+	for (size_t s = 0; s <= d; s++)
+		for (size_t k = 0; k < 4; k++)
+			note(word[s][k], "byte %zu of share %zu", k, s);
 	for (size_t s = 0; s <= d; s++) {
 		uint8_t first = word[s][0];
 
@@ -42,8 +48,9 @@ void schedule_expand(size_t d, size_t words, const uint8_t *key, struct tape *t,
 		} else if (words == 8 && i % 8 == 4) {
 			sub_word(d, word, t);
 		}
+		note_where("key word");
 		for (size_t s = 0; s <= d; s++)
 			for (size_t k = 0; k < 4; k++)
-				w[s][i][k] = w[s][i - words][k] ^ word[s][k];
+				w[s][i][k] = note(note(w[s][i - words][k], "%zu of share %zu", i - words, s) ^ note(word[s][k], "%zu so far", i), "%zu of share %zu", i, s);
 	}
 }

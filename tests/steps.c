@@ -1,10 +1,15 @@
 #include "steps.h"
 
+#include "notes.h"
+
 #include <string.h>
 
 static uint8_t draw(struct tape *t)
 {
-	return t->bytes[t->drawn++];
+	uint8_t byte = t->bytes[t->drawn++];
+
+	note_drawn(t->drawn);
+	return byte;
 }
 
 /* The whole product of the polynomials, then the remainder by x^8 + x^4 + x^3 + x + 1. */
@@ -51,36 +56,36 @@ uint8_t step_inverse_affine(uint8_t a)
 void step_refresh(size_t d, uint8_t *x, struct tape *t)
 {
 	for (size_t i = 1; i <= d; i++) {
-		uint8_t mask = draw(t);
+		uint8_t mask = note(draw(t), "t_%zu", i);
 
-		x[0] ^= mask;
-		x[i] ^= mask;
+		x[0] = note(x[0] ^ mask, "share 0 after t_%zu", i);
+		x[i] = note(x[i] ^ mask, "share %zu after t_%zu", i, i);
 	}
 }
 
 void step_product(size_t d, const uint8_t *a, const uint8_t *b, struct tape *t, uint8_t *c, uint8_t *places)
 {
 	uint8_t r[MAX_SHARES][MAX_SHARES];
-	uint8_t *note = places;
+	uint8_t *place = places;
 
 	for (size_t i = 0; i <= d; i++)
-		*note++ = a[i];
+		*place++ = note(a[i], "a_%zu", i);
 	for (size_t i = 0; i <= d; i++)
-		*note++ = b[i];
+		*place++ = note(b[i], "b_%zu", i);
 	for (size_t i = 0; i <= d; i++) {
 		for (size_t j = i + 1; j <= d; j++) {
-			*note++ = r[i][j] = draw(t);
-			*note++ = step_times(a[i], b[j]);
-			*note++ = r[j][i] = r[i][j] ^ step_times(a[i], b[j]);
-			*note++ = step_times(a[j], b[i]);
-			*note++ = r[j][i] ^= step_times(a[j], b[i]);
+			*place++ = r[i][j] = note(draw(t), "r(%zu,%zu)", i, j);
+			uint8_t cross = *place++ = note_product(a[i], i, b[j], j);
+			uint8_t half = *place++ = note(r[i][j] ^ cross, "r(%zu,%zu)^a_%zu*b_%zu", i, j, i, j);
+			uint8_t crossed = *place++ = note_product(a[j], j, b[i], i);
+			*place++ = r[j][i] = note(half ^ crossed, "r(%zu,%zu)", j, i);
 		}
 	}
 	for (size_t i = 0; i <= d; i++) {
-		*note++ = c[i] = step_times(a[i], b[i]);
+		*place++ = c[i] = note_product(a[i], i, b[i], i);
 		for (size_t j = 0; j <= d; j++)
 			if (j != i)
-				*note++ = c[i] ^= r[i][j];
+				*place++ = c[i] = note(c[i] ^ r[i][j], "sum %zu after r(%zu,%zu)", i, i, j);
 	}
 }
 
@@ -99,7 +104,7 @@ static void squares(size_t d, uint8_t *y, const uint8_t *x, int times)
 	for (size_t i = 0; i <= d; i++) {
 		y[i] = x[i];
 		for (int k = 0; k < times; k++)
-			y[i] = step_times(y[i], y[i]);
+			y[i] = note(step_times(y[i], y[i]), "share %zu", i);
 	}
 }
 
@@ -108,33 +113,42 @@ static void power_254(size_t d, uint8_t *x, struct tape *t)
 {
 	uint8_t y[MAX_SHARES], z[MAX_SHARES], w[MAX_SHARES];
 
+	note_where("z = x^2");
 	squares(d, z, x, 1);
 	step_refresh(d, z, t);
+	note_where("z*x");
 	multiply(d, y, z, x, t);
+	note_where("w = y^4");
 	squares(d, w, y, 2);
 	step_refresh(d, w, t);
+	note_where("y*w");
 	multiply(d, y, y, w, t);
+	note_where("v^16");
 	squares(d, y, y, 4);
+	note_where("v^16*w");
 	multiply(d, y, y, w, t);
+	note_where("u*z");
 	multiply(d, x, y, z, t);
 }
 
 void step_sbox(size_t d, uint8_t *x, struct tape *t)
 {
 	power_254(d, x, t);
+	note_where("Af");
 	for (size_t i = 0; i <= d; i++)
-		x[i] = step_affine(x[i]);
+		x[i] = note(step_affine(x[i]), "share %zu", i);
 	if (d % 2 == 1)
-		x[0] ^= 0x63;
+		x[0] = note(x[0] ^ 0x63, "share 0 ^ 63");
 }
 
 /* At odd orders the 05s of all shares cancel out, so share 0 takes in one more, before the power. */
 void step_inverse_sbox(size_t d, uint8_t *x, struct tape *t)
 {
+	note_where("inverse Af");
 	for (size_t i = 0; i <= d; i++)
-		x[i] = step_inverse_affine(x[i]);
+		x[i] = note(step_inverse_affine(x[i]), "share %zu", i);
 	if (d % 2 == 1)
-		x[0] ^= 0x05;
+		x[0] = note(x[0] ^ 0x05, "share 0 ^ 05");
 	power_254(d, x, t);
 }
 
@@ -142,8 +156,9 @@ void step_box_at(size_t d, step_box *box, uint8_t *string, size_t apart, size_t 
 {
 	uint8_t x[MAX_SHARES];
 
+	note_where("byte of a string");
 	for (size_t s = 0; s <= d; s++)
-		x[s] = string[s * apart + k];
+		x[s] = note(string[s * apart + k], "%zu of share %zu", k, s);
 	box(d, x, t);
 	for (size_t s = 0; s <= d; s++)
 		string[s * apart + k] = x[s];

@@ -1,0 +1,42 @@
+/*
+ * The calls that are looked at: for each its inputs in a run, the library's
+ * routine, the same by the second implementation, which notes its places, and
+ * the part of the call that is meant.
+ */
+#ifndef CALLS_H
+#define CALLS_H
+
+#include "../notes.h"
+
+#include <stdbool.h>
+#include <stddef.h>
+
+struct call {
+	const char *name;
+	/* It is looked at from order 1 to this one, in so many runs. */
+	size_t last_order, runs;
+	/* Lengths and window at an order; inputs of a run; the library's call; the second implementation's. */
+	void (*set)(void);
+	void (*draw)(size_t run);
+	void (*make)(void);
+	void (*note)(void);
+};
+
+/* What the gate looks at. */
+extern const struct call calls[];
+extern const size_t call_count;
+
+/* A whole encryption, which takes minutes. */
+extern const struct call whole_call;
+
+/* Routines that hold what they must not: brackets moved, and two shares in one byte. */
+extern const struct call planted[];
+extern const size_t planted_count;
+
+/* Before the first run of a call at an order. The window's places are those after so many draws to so many. */
+void call_begin(const struct call *c, size_t order, struct notes *n);
+
+/* Whether the library carried the last run through, and its output is the second implementation's. */
+bool call_agrees(void);
+
+#endif

@@ -1,0 +1,36 @@
+/*
+ * What a byte is, over all runs of a call. It may be
+ *
+ *   - the same in every run (a length, an address, a table's byte), or
+ *   - a function of one place: of one byte that the steps of documents 01 and
+ *     02 compute, or of the sum of the logs of two factors, at which a table
+ *     is read for their product, or
+ *   - a sum of bits of one column of one share, in MixColumns and its inverse.
+ */
+#ifndef JUDGE_H
+#define JUDGE_H
+
+#include "../notes.h"
+#include "stepping.h"
+
+#include <stdbool.h>
+
+/* Before the first run of a call. */
+void judge_new(void);
+
+/* The places of a run, which come in turn. */
+void judge_take(const struct notes *n, size_t run);
+
+/* All runs are in. Answers with false where a place takes the same value too seldom to tell what depends on it, and says which. */
+bool judge_ready(const struct notes *n, size_t runs);
+
+/* Whether the byte is one that may be held. */
+bool judge_allows(const struct lane *l);
+
+/* How many of the places some byte was equal to, in every run. */
+size_t judge_seen(size_t *of);
+
+/* What a byte that is not allowed is: the XOR of two or three places, or a function of two. */
+const char *judge_tells(const struct lane *l);
+
+#endif
