@@ -1,5 +1,6 @@
 pub mod TermsLaws
 pub mod SumsLaws
+pub mod PartsLaws
 pub mod CallsLaws
 pub mod SheetParts
 pub mod ReadingLaws

@@ -1,7 +1,7 @@
 -- A product's sheet as the routines write it: both factors, the pairs row by row, the running sums row by row, each part behind those before it;
 -- the lengths of the parts, and what stands in each row. Assumes nothing.
 use mathlib.Core.Path.{_≡_, refl, ap, sym, _∙_}
-use mathlib.Core.List.{List, [], _∷_, _++_, map, map-append}
+use mathlib.Core.List.{List, [], _∷_, _++_, map, map-append, append-nil}
 use Prim.Native.Nat.{ℕ, suc, _+_, _*_, _-_, _≤_, _<_}
 use native.Mathlib.Nat.{mul-le-mul, suc-mul, mul-le-mul-right}
 use native.Mathlib.Numerals.{add-one}
@@ -13,12 +13,13 @@ use lib.Seq.{sets-eq, getD-drop}
 use Rattle.xor.specs.Lists.{at, runs, tab}
 use Rattle.xor.proofs.ListsLaws.{runs-cong, tab-cong, length-runs, length-tab, map-runs, map-tab, tab-at}
 use Rattle.gf256.specs.Field.{times}
-use Rattle.isw.specs.Place.{Place, left, right, part, running, skip, half-sum, other, byte, pair-places, pair-row, row-places, places, place-count, before-row, draw-index, drawn, product-need, value, sheet}
+use Rattle.isw.specs.Place.{Place, left, right, part, half-sum, other, byte, pair-places, pair-row, row-places, places, place-count, before-row, draw-index, drawn, product-need, value, sheet}
 use Rattle.isw.proofs.OrderLaws.{product-need-is, twice-need, length-rows}
 use Rattle.shares.specs.Writes.{front}
 use Rattle.shares.proofs.WriteLaws.{part-rest, front-part, front-all, at-front}
-use Rattle.masking.specs.Steps.{pair-of, bytes-of, crosses, halves, crosseds, backs, five-rows, row-bytes, Terms}
-use Rattle.masking.proofs.TermsLaws.{product-need-rows, terms-row}
+use Rattle.masking.specs.Steps.{pair-of, bytes-of, crosses, halves, crosseds, backs, five-rows, row-bytes}
+use Rattle.masking.specs.Parts.{pairs-before, sums-before}
+use Rattle.masking.proofs.TermsLaws.{product-need-rows}
 
 -- ---- counts
 
@@ -34,9 +35,9 @@ few-drawn d h =
     let n : suc d ≤ 9 = omega arith in
     omega (arith, twice-need d, mul-le-mul h n)
 
-pub place-count-rows : (d : ℕ) → place-count d ≡ 2 * (d + 1) + 5 * before-row (d + 1) (d + 1) + (d + 1) * (d + 1)
+pub place-count-parts : (d : ℕ) → place-count d ≡ 2 * (d + 1) + 5 * product-need d + (d + 1) * (d + 1)
 unfolding place-count
-place-count-rows d = rw (sym (product-need-rows d), product-need-is d, add-one) refl
+place-count-parts d = rw (product-need-is d, add-one) refl
 
 -- i rows of n and one more are within n rows
 pub rows-room : (i n : ℕ) → i < n → i * n + n ≤ n * n
@@ -60,7 +61,7 @@ front-five v₀ v₁ v₂ v₃ v₄ o h = sets-eq (v₀ ∷ v₁ ∷ v₂ ∷ v�
 -- ---- a row of pairs
 
 module _ (a b ts : List ℕ) (i : ℕ) where
-  pub length-row-bytes : (m : ℕ) → length (row-bytes a b ts i m) ≡ 5 * m
+  length-row-bytes : (m : ℕ) → length (row-bytes a b ts i m) ≡ 5 * m
   unfolding row-bytes
   length-row-bytes m = length-runs 5 _ m (λ k l. refl)
 
@@ -75,16 +76,25 @@ module _ (r c h d k : List ℕ) where
   five-rows-more m = rw add-one refl
 
   -- where the rows hold the bytes of the pairs of row i
-  pub five-rows-right : (a b : List ℕ) (i w : ℕ) → ((m : ℕ) → m < w → at c m ≡ crosses a b i m) → ((m : ℕ) → m < w → at h m ≡ halves a b r i m)
-      → ((m : ℕ) → m < w → at d m ≡ crosseds a b i m) → ((m : ℕ) → m < w → at k m ≡ backs a b r i m) → five-rows r c h d k w ≡ row-bytes a b r i w
+  pub five-rows-right : (a b : List ℕ) (i w : ℕ) (c₀ h₀ d₀ k₀ : List ℕ) → c ≡ front (tab (crosses a b i) w) c₀
+      → h ≡ front (tab (halves a b r i) w) h₀
+      → d ≡ front (tab (crosseds a b i) w) d₀ → k ≡ front (tab (backs a b r i) w) k₀ → five-rows r c h d k w ≡ row-bytes a b r i w
   unfolding five-rows row-bytes
-  five-rows-right a b i w ec eh ed ek = runs-cong _ _ w (λ m l. rw (ec m l, eh m l, ed m l, ek m l) refl)
+  five-rows-right a b i w c₀ h₀ d₀ k₀ ec eh ed ek =
+      runs-cong _ _ w
+      (λ m l.
+      let yc = at-front (crosses a b i) w m c c₀ ec l in
+      let yh = at-front (halves a b r i) w m h h₀ eh l in
+      let yd = at-front (crosseds a b i) w m d d₀ ed l in
+      let yk = at-front (backs a b r i) w m k k₀ ek l in
+      rw (yc, yh, yd, yk) refl)
 
 -- the second half of the pairs of a row, on the first half's bytes
 pub backs-right : (a b tape : List ℕ) (i w : ℕ) (h o q x : List ℕ) → h ≡ front (tab (halves a b tape i) w) o
     → q ≡ front (tab (λ m. bitXor (at h m) (crosseds a b i m)) w) x → q ≡ front (tab (backs a b tape i) w) x
 backs-right a b tape i w h o q x e f =
-    f ∙ ap (λ (l : List ℕ). front l x) (tab-cong _ _ w (λ m l. ap (λ (z : ℕ). bitXor z (crosseds a b i m)) (at-front (halves a b tape i) w m h o e l)))
+    f ∙ ap (λ (l : List ℕ). front l x)
+    (tab-cong _ _ w (λ m l. ap (λ (z : ℕ). bitXor z (crosseds a b i m)) (at-front (halves a b tape i) w m h o e l)))
 
 -- ---- the rows of n shares
 
@@ -93,23 +103,18 @@ module _ (n : ℕ) (a b ts : List ℕ) where
   abbrev byte-at : Place → ℕ
   byte-at = byte times (at a) (at b) (drawn n ts)
 
-  -- the pairs of the rows before i
-  abbrev pub pairs-before : (i : ℕ) → List ℕ
-  pairs-before i = map byte-at (runs (pair-row n) i)
-
-  -- the running sums of the rows before i
-  abbrev pub sums-before : (i : ℕ) → List ℕ
-  sums-before i = map byte-at (runs (row-places n) i)
-
   length-pair-row : (i : ℕ) → length (pair-row n i) ≡ 5 * (n - suc i)
   unfolding pair-row pair-places
   length-pair-row i = length-runs 5 _ (n - suc i) (λ m l. refl)
 
-  pub length-pairs : (i : ℕ) → length (pairs-before i) ≡ 5 * before-row n i
+  length-pairs : (i : ℕ) → length (pairs-before n a b ts i) ≡ 5 * before-row n i
   length-pairs i = length-map (runs (pair-row n) i) byte-at ∙ length-rows n 5 (pair-row n) length-pair-row i
 
-  pub length-sums : (i : ℕ) → length (sums-before i) ≡ i * n
-  length-sums i = length-map (runs (row-places n) i) byte-at ∙ length-runs n (row-places n) i (λ j l. unfold row-places in length-tab (part j) n) ∙ omega arith
+  pub length-sums : (i : ℕ) → length (sums-before n a b ts i) ≡ i * n
+  length-sums i =
+      length-map (runs (row-places n) i) byte-at
+      ∙ length-runs n (row-places n) i (λ j l. unfold row-places in length-tab (part j) n)
+      ∙ omega arith
 
   -- the draws of row i stand on the tape from its first on
   drawn-row : (i m : ℕ) → drawn n ts i (suc i + m) ≡ at (drop (before-row n i) ts) m
@@ -131,26 +136,36 @@ module _ (n : ℕ) (a b ts : List ℕ) where
       ∙ runs-cong _ _ (n - suc i) (λ m l. pair-bytes i m)
 
   -- one row more
-  pub pairs-more : (i k : ℕ) → k ≡ before-row n i
-      → pairs-before i ++ row-bytes a b (rest k ts) i (n - (i + 1)) ≡ pairs-before (i + 1)
+  pairs-more : (i k w : ℕ) → k ≡ before-row n i → n ≡ i + 1 + w
+      → pairs-before n a b ts i ++ row-bytes a b (rest k ts) i w ≡ pairs-before n a b ts (i + 1)
   unfolding runs
-  pairs-more i k e =
-      rw (part-rest ts k, e, add-one, sym (pair-row-bytes i))
+  pairs-more i k w e h =
+      let x : w ≡ n - suc i = omega arith in
+      rw (part-rest ts k, e, x, add-one, sym (pair-row-bytes i))
       (sym (map-append byte-at (runs (pair-row n) i) (pair-row n i)))
 
-  module _ (table : List ℕ) (i s : ℕ) (terms : Terms n a b ts table) (h : i < n) (e : s ≡ times (at a i) (at b i)) where
-    row-sum : (k : ℕ) → k < n → running s (λ m. at table (i * 9 + skip i m)) k ≡ byte-at (part i k)
-    unfolding byte
-    row-sum k l = terms-row n a b ts table i s k terms h l e
+  pub pairs-written : (i k w : ℕ) (y q o : List ℕ) → k ≡ before-row n i → n ≡ i + 1 + w → 5 * (k + w) ≤ length o
+      → y ≡ front (pairs-before n a b ts i) o
+      → q ≡ front (row-bytes a b (rest k ts) i w) (rest (5 * k) y) → behind (5 * k) y q ≡ front (pairs-before n a b ts (i + 1)) o
+  pairs-written i k w y q o e h l f g =
+      let u : length (pairs-before n a b ts i) ≡ 5 * k = length-pairs i ∙ rw e refl in
+      let v = length-row-bytes a b (rest k ts) i w in
+      front-part (5 * k) y q o (row-bytes a b (rest k ts) i w) (pairs-before n a b ts i) (pairs-before n a b ts (i + 1))
+      f u (omega arith) g (pairs-more i k w e h)
 
-    row-sums : tab (λ k. running s (λ m. at table (i * 9 + skip i m)) k) n ≡ map byte-at (row-places n i)
-    unfolding row-places
-    row-sums = tab-cong _ _ n row-sum ∙ sym (map-tab byte-at (part i) n)
+-- the last share has no row of pairs
+pair-row-last : (d : ℕ) → pair-row (suc d) d ≡ []
+unfolding pair-row runs
+pair-row-last d =
+    let e : suc d - suc d ≡ 0 = omega arith in
+    ap (runs (λ m. pair-places d (suc d + m))) e
 
-    -- one row more
-    pub sums-more : sums-before i ++ tab (λ k. running s (λ m. at table (i * 9 + skip i m)) k) n ≡ sums-before (i + 1)
-    unfolding runs
-    sums-more = rw (row-sums, add-one) (sym (map-append byte-at (runs (row-places n) i) (row-places n i)))
+pub pairs-last : (d : ℕ) (a b ts : List ℕ) → pairs-before (d + 1) a b ts d ≡ pairs-before (d + 1) a b ts (d + 1)
+unfolding runs
+pairs-last d a b ts =
+    rw add-one
+    (ap (map (byte times (at a) (at b) (drawn (suc d) ts)))
+    (sym (append-nil (runs (pair-row (suc d)) d)) ∙ ap (_++_ (runs (pair-row (suc d)) d)) (sym (pair-row-last d))))
 
 -- ---- the whole
 
@@ -179,7 +194,7 @@ module _ (d : ℕ) (a b ts : List ℕ) where
             rw (sym e) (simp (map-append, shares-are f a left n h (λ i. unfold byte in refl), shares-are f b right n k (λ i. unfold byte in refl)))
 
     -- the parts, each written behind those before it
-    pub sheet-written : (k : ℕ) (o y q₂ q₃ q₄ : List ℕ) → length o ≡ place-count d → k ≡ before-row (d + 1) (d + 1)
+    pub sheet-written : (k : ℕ) (o y q₂ q₃ q₄ : List ℕ) → length o ≡ place-count d → k ≡ product-need d
         → y ≡ front a o
         → q₂ ≡ front b (rest (d + 1) y)
         → q₃ ≡ front pairs (rest (2 * (d + 1)) (behind (d + 1) y q₂))
@@ -188,8 +203,8 @@ module _ (d : ℕ) (a b ts : List ℕ) where
     sheet-written k o y q₂ q₃ q₄ lo e p₁ p₂ p₃ p₄ =
         let n = d + 1 in
         let m = 2 * n + 5 * k in
-        let l : length o ≡ m + n * n = lo ∙ place-count-rows d ∙ rw e refl in
-        let lp : length pairs ≡ 5 * k = length-pairs n a b ts n ∙ rw e refl in
+        let l : length o ≡ m + n * n = lo ∙ place-count-parts d ∙ rw e refl in
+        let lp : length pairs ≡ 5 * k = length-pairs n a b ts n ∙ rw (e, product-need-rows d) refl in
         let ls : length sums ≡ n * n = length-sums n a b ts n in
         let l₂ : length (a ++ b) ≡ 2 * n = length-append a b ∙ omega arith in
         let l₃ : length (a ++ b ++ pairs) ≡ m = length-append (a ++ b) pairs ∙ omega arith in

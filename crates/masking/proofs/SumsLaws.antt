@@ -1,22 +1,25 @@
--- The running sums of a product's shares, which take in its terms pair by pair, in the order of the draws. Assumes nothing.
-use mathlib.Core.Path.{_≡_, refl, sym, ap, _∙_}
+-- The running sums of a product's shares, which take in its terms row by row, in the order of the draws. Assumes nothing.
+use mathlib.Core.Path.{_≡_, refl, sym, ap, ap₂, _∙_}
 use mathlib.Core.List.{List}
-use Prim.Native.Nat.{ℕ, suc, _+_, _-_, _≤_, _<_}
+use Prim.Native.Nat.{ℕ, zero, suc, _+_, _-_, _≤_, _<_}
 use native.Mathlib.Omega.{arith}
 use native.Mathlib.Numerals.{add-one}
 use native.Mathlib.Decide.{decLt}
 use lib.Bits.{bitXor}
-use lib.ListN.{length, drop, set}
-use lib.Seq.{getD-set-same, getD-set-other, getD-drop}
+use lib.ListN.{length, drop, set, length-set}
+use lib.Seq.{getD-set-same, getD-set-other}
 use Rattle.xor.specs.Lists.{at, tab}
-use Rattle.xor.proofs.ListsLaws.{at-tab, tab-at, tab-cong}
+use Rattle.xor.proofs.ListsLaws.{length-tab, at-tab, tab-at, tab-cong}
 use Rattle.gf256.specs.Field.{times}
 use Rattle.isw.specs.Place.{running, row, before-row, drawn, product}
 use Rattle.isw.proofs.PlaceLaws.{skip-past, skip-before}
 use Rattle.shares.specs.Writes.{front}
 use Rattle.shares.proofs.WriteLaws.{at-front}
-use Rattle.masking.specs.Steps.{backs, Sums}
-use Rattle.masking.proofs.TermsLaws.{r, row-terms, product-rows}
+use Rattle.masking.specs.Steps.{backs, starts, behind-taken, row-taken, pairs-taken}
+use Rattle.masking.proofs.TermsLaws.{r, row-draws, row-backs, product-rows}
+
+pub length-starts : (a b : List ℕ) (n : ℕ) (o : List ℕ) → o ≡ starts a b n → length o ≡ n
+length-starts a b n o e = ap length e ∙ length-tab _ _
 
 -- ---- a share's own sums over the draws of its row
 
@@ -26,24 +29,57 @@ module _ (start : ℕ) (tape : List ℕ) where
   own-next m s q e f = rw (f, e, add-one) refl
 
   -- the last of them stands at the end of their row
-  pub own-last : (y o : List ℕ) (m w s : ℕ) → m ≡ w → 0 < w → s ≡ running start (at tape) m → y ≡ front (tab (λ k. running start (at tape) (k + 1)) w) o
-      → at y (w - 1) ≡ s
-  own-last y o m w s e h g f =
+  pub own-last : (y o : List ℕ) (w : ℕ) → 0 < w → y ≡ front (tab (λ k. running start (at tape) (k + 1)) w) o
+      → at y (w - 1) ≡ running start (at tape) w
+  own-last y o w h f =
       let x : w - 1 + 1 ≡ w = omega arith in
-      at-front (λ k. running start (at tape) (k + 1)) w (w - 1) y o f (omega arith) ∙ ap (running start (at tape)) (x ∙ sym e) ∙ sym g
+      at-front (λ k. running start (at tape) (k + 1)) w (w - 1) y o f (omega arith) ∙ ap (running start (at tape)) x
+
+-- ---- those of the shares behind it
+
+module _ (i : ℕ) (f : ℕ → ℕ) (s : List ℕ) where
+  pub length-behind : (m : ℕ) → length (behind-taken i f s m) ≡ length s
+  unfolding behind-taken
+  length-behind zero = refl
+  length-behind (suc m) = length-set (behind-taken i f s m) (i + 1 + m) _ ∙ length-behind m
+
+  pub behind-next : (m v : ℕ) (y : List ℕ) → y ≡ behind-taken i f s m → v ≡ bitXor (at y (i + 1 + m)) (f m)
+      → set y (i + 1 + m) v ≡ behind-taken i f s (m + 1)
+  unfolding behind-taken
+  behind-next m v y e g = rw (g, e, add-one m) refl
+
+  -- the row's end
+  pub row-taken-last : (w v : ℕ) (d : ℕ → ℕ) (y : List ℕ) → y ≡ behind-taken i f s w → v ≡ running (at s i) d w → set y i v ≡ row-taken i w d f s
+  unfolding row-taken
+  row-taken-last w v d y e g = rw (e, g) refl
+
+behind-cong : (i : ℕ) (f g : ℕ → ℕ) (s : List ℕ) (w : ℕ) → ((m : ℕ) → m < w → f m ≡ g m) → behind-taken i f s w ≡ behind-taken i g s w
+unfolding behind-taken
+behind-cong i f g s zero h = refl
+behind-cong i f g s (suc w) h =
+    ap₂ (λ (y : List ℕ) (v : ℕ). set y (i + 1 + w) (bitXor (at y (i + 1 + w)) v))
+    (behind-cong i f g s w (λ m l. h m (omega arith))) (h w (omega arith))
+
+-- on a row that holds the backs of the pairs
+pub row-taken-backs : (a b tape : List ℕ) (i w : ℕ) (s y k o : List ℕ) → k ≡ front (tab (backs a b tape i) w) o
+    → y ≡ row-taken i w (at tape) (at k) s → y ≡ pairs-taken a b tape i w s
+unfolding row-taken
+row-taken-backs a b tape i w s y k o e f =
+    f ∙ ap (λ (y : List ℕ). set y i (running (at s i) (at tape) w))
+    (behind-cong i (at k) (backs a b tape i) s w (λ m l. at-front (backs a b tape i) w m k o e l))
 
 module _ (n : ℕ) (a b ts : List ℕ) where
   -- the sum of share k after q of its terms
-  abbrev sum-of : (k q : ℕ) → ℕ
+  abbrev pub sum-of : (k q : ℕ) → ℕ
   sum-of k q = row times (at a) (at b) (drawn n ts) k q
 
   -- ---- one term more
 
   -- share i takes in the term of a share behind it
-  sum-past : (i m s v : ℕ) → s ≡ sum-of i (i + m) → v ≡ r n a b ts i (i + 1 + m) → bitXor s v ≡ sum-of i (i + (m + 1))
+  sum-past : (i m s v : ℕ) → s ≡ sum-of i (i + m) → v ≡ r n a b ts i (i + 1 + m) → bitXor s v ≡ sum-of i (i + suc m)
   unfolding row running
   sum-past i m s v e f =
-      let x : i + (m + 1) ≡ suc (i + m) = omega arith in
+      let x : i + suc m ≡ suc (i + m) = omega arith in
       let y : i + 1 + m ≡ suc (i + m) = omega arith in
       rw (x, skip-past i (i + m) (omega arith), e, f, y) refl
 
@@ -52,95 +88,113 @@ module _ (n : ℕ) (a b ts : List ℕ) where
   unfolding row running
   sum-before i j s v h e f = rw (add-one, skip-before j i h, e, f) refl
 
-  -- ---- before the pairs, each share has its start
+  -- ---- the running sums before row i: the shares before i have taken in all their terms, each other share the first i
 
-  pub sums-start : (o : List ℕ) → o ≡ tab (λ k. times (at a k) (at b k)) n → Sums n a b ts 0 o
+  pub record Sums (i : ℕ) (sums : List ℕ) : Type 0 where
+    pub whole : (k : ℕ) → k < i → at sums k ≡ sum-of k (n - 1)
+    pub begun : (k : ℕ) → i ≤ k → k < n → at sums k ≡ sum-of k i
+
+  -- before the first, each share has its start
+  pub start-sum : (o : List ℕ) (k : ℕ) → o ≡ starts a b n → k < n → at o k ≡ sum-of k 0
   unfolding row running
+  start-sum o k e l = rw e (at-tab (λ k. times (at a k) (at b k)) n k l)
+
+  pub sums-start : (o : List ℕ) → o ≡ starts a b n → Sums 0 o
   sums-start o e = record {
     whole = λ k h. absurd (omega arith);
-    begun = λ k h l. rw e (at-tab (λ k. times (at a k) (at b k)) n k l);
+    begun = λ k h l. start-sum o k e l;
   }
 
-  -- ---- pair by pair
+  -- a row of w pairs, whose draws stand at the front of the tape
+  module _ (i w : ℕ) (tape s : List ℕ) (x : n ≡ i + 1 + w) (f : tape ≡ drop (before-row n i) ts) (l : n ≤ length s) (g : Sums i s) where
+    row-own : (m : ℕ) → m ≤ w → running (at s i) (at tape) m ≡ sum-of i (i + m)
+    unfolding running
+    row-own zero h =
+        let e : i + 0 ≡ i = omega arith in
+        rw e (g .begun i (omega arith) (omega arith))
+    row-own (suc m) h = sum-past i m _ (at tape m) (row-own m (omega arith)) (row-draws n a b ts i m tape f)
 
-  -- the running sums after the first m pairs of row i, that of share i apart, as s
-  pub record Row-sums (i m s : ℕ) (sums : List ℕ) : Type 0 where
-    pub own : s ≡ sum-of i (i + m)
-    pub whole : (k : ℕ) → k < i → at sums k ≡ sum-of k (n - 1)
-    pub taken : (k : ℕ) → i < k → k ≤ i + m → at sums k ≡ sum-of k (i + 1)
-    pub begun : (k : ℕ) → i + m < k → k < n → at sums k ≡ sum-of k i
+    pub row-own-next : (m : ℕ) → m < w → running (at s i) (at tape) (m + 1) ≡ sum-of i (i + 1 + m)
+    row-own-next m h =
+        let e : i + (m + 1) ≡ i + 1 + m = omega arith in
+        row-own (m + 1) (omega arith) ∙ ap (sum-of i) e
 
-  pub row-start : (i : ℕ) (o : List ℕ) → i < n → Sums n a b ts i o → Row-sums i 0 (at o i) o
-  row-start i o h g =
-      let e : i + 0 ≡ i = omega arith in
-      record {
-        own = rw e (g .begun i (omega arith) h);
-        whole = g .whole;
-        taken = λ k l u. absurd (omega arith);
-        begun = λ k l u. g .begun k (omega arith) u;
-      }
+    abbrev behind : (m : ℕ) → List ℕ
+    behind m = behind-taken i (backs a b tape i) s m
 
-  pub row-pair : (i m s v : ℕ) (o tape : List ℕ) → tape ≡ drop (before-row n i) ts → i + 1 + m < n → n ≤ length o
-      → v ≡ backs a b tape i m
-      → Row-sums i m s o → Row-sums i (m + 1) (bitXor s (at tape m)) (set o (i + 1 + m) (bitXor (at o (i + 1 + m)) v))
-  unfolding at
-  row-pair i m s v o tape f h l q g = record {
-    own = sum-past i m s (at tape m) (g .own) (t .0);
-    whole = λ k u. other k (λ z. omega arith) ∙ g .whole k u;
-    taken = λ k u v. elim (decLt k j) [
-      | yes y ↦ other k (λ z. omega arith) ∙ g .taken k u (omega arith)
-      | no y ↦ let e : k ≡ j = omega arith in rw e new
-    ];
-    begun = λ k u v. other k (λ z. omega arith) ∙ g .begun k (omega arith) v;
-  }
-    where
-      j : ℕ
-      j = i + 1 + m
+    -- the shares behind i after the first m pairs, and all others
+    record Row-sums (m : ℕ) (sums : List ℕ) : Type 0 where
+      pub whole : (k : ℕ) → k < i → at sums k ≡ sum-of k (n - 1)
+      pub taken : (k : ℕ) → i < k → k ≤ i + m → at sums k ≡ sum-of k (i + 1)
+      pub begun : (k : ℕ) → i + m < k → k < n → at sums k ≡ sum-of k i
 
-      o′ : List ℕ
-      o′ = set o j (bitXor (at o j) v)
-
-      t : (at tape m ≡ r n a b ts i j) × (v ≡ r n a b ts j i)
-      t = row-terms n a b ts i m v tape f q
-
-      other : (k : ℕ) → (k ≡ j → ⊥) → at o′ k ≡ at o k
-      other k z = getD-set-other o j k _ 0 z
-
-      new : at o′ j ≡ sum-of j (i + 1)
-      new = getD-set-same o j _ 0 (omega arith) ∙ sum-before i j (at o j) v (omega arith) (g .begun j (omega arith) h) (t .1)
-
-  pub row-end : (i w s : ℕ) (o : List ℕ) → n ≡ i + 1 + w → n ≤ length o → Row-sums i w s o → Sums n a b ts (i + 1) (set o i s)
-  unfolding at
-  row-end i w s o x l g = record {
-    whole = λ k u. elim (decLt k i) [
-      | yes y ↦ other k (λ z. omega arith) ∙ g .whole k y
-      | no y ↦ let e : k ≡ i = omega arith in rw e new
-    ];
-    begun = λ k u v. other k (λ z. omega arith) ∙ g .taken k (omega arith) (omega arith);
-  }
-    where
-      other : (k : ℕ) → (k ≡ i → ⊥) → at (set o i s) k ≡ at o k
-      other k z = getD-set-other o i k s 0 z
-
-      new : at (set o i s) i ≡ sum-of i (n - 1)
-      new = let e : i + w ≡ n - 1 = omega arith in getD-set-same o i s 0 (omega arith) ∙ (rw e at (g .own))
-
--- ---- after all pairs, the sums are the product's shares
-
--- the last share has no row of its own
-pub sums-last : (d : ℕ) (a b ts o : List ℕ) → Sums (d + 1) a b ts d o → Sums (d + 1) a b ts (d + 1) o
-sums-last d a b ts o g =
-    let e : d + 1 - 1 ≡ d = omega arith in
-    record {
-      whole = λ k u. elim (decLt k d) [
-        | yes y ↦ g .whole k y
-        | no y ↦ let f : k ≡ d = omega arith in rw (f, e) (g .begun d (omega arith) (omega arith))
+    row-pair : (m : ℕ) (o : List ℕ) → m < w → length o ≡ length s → Row-sums m o
+        → Row-sums (suc m) (set o (i + 1 + m) (bitXor (at o (i + 1 + m)) (backs a b tape i m)))
+    unfolding at
+    row-pair m o h q p = record {
+      whole = λ k u. kept k (λ z. omega arith) ∙ p .whole k u;
+      taken = λ k u v. elim (decLt k j) [
+        | yes y ↦ kept k (λ z. omega arith) ∙ p .taken k u (omega arith)
+        | no y ↦ let e : k ≡ j = omega arith in rw e new
       ];
-      begun = λ k u v. absurd (omega arith);
+      begun = λ k u v. kept k (λ z. omega arith) ∙ p .begun k (omega arith) v;
     }
+      where
+        j : ℕ
+        j = i + 1 + m
 
-pub sums-all : (d : ℕ) (a b ts o : List ℕ) → length o ≡ d + 1 → Sums (d + 1) a b ts (d + 1) o → o ≡ product times d a b ts
+        o′ : List ℕ
+        o′ = set o j (bitXor (at o j) (backs a b tape i m))
+
+        kept : (k : ℕ) → (k ≡ j → ⊥) → at o′ k ≡ at o k
+        kept k z = getD-set-other o j k _ 0 z
+
+        new : at o′ j ≡ sum-of j (i + 1)
+        new =
+            getD-set-same o j _ 0 (omega arith)
+            ∙ sum-before i j (at o j) (backs a b tape i m) (omega arith) (p .begun j (omega arith) (omega arith)) (row-backs n a b ts i m tape f)
+
+    row-sums : (m : ℕ) → m ≤ w → Row-sums m (behind m)
+    unfolding behind-taken
+    row-sums zero h = record {
+      whole = g .whole;
+      taken = λ k u v. absurd (omega arith);
+      begun = λ k u v. g .begun k (omega arith) v;
+    }
+    row-sums (suc m) h = row-pair m (behind m) (omega arith) (length-behind i (backs a b tape i) s m) (row-sums m (omega arith))
+
+    row-end : (o : List ℕ) (v : ℕ) → length o ≡ length s → v ≡ sum-of i (i + w) → Row-sums w o → Sums (i + 1) (set o i v)
+    unfolding at
+    row-end o v q e p = record {
+      whole = λ k u. elim (decLt k i) [
+        | yes y ↦ kept k (λ z. omega arith) ∙ p .whole k y
+        | no y ↦ let z : k ≡ i = omega arith in rw z new
+      ];
+      begun = λ k u v. kept k (λ z. omega arith) ∙ p .taken k (omega arith) (omega arith);
+    }
+      where
+        kept : (k : ℕ) → (k ≡ i → ⊥) → at (set o i v) k ≡ at o k
+        kept k z = getD-set-other o i k v 0 z
+
+        new : at (set o i v) i ≡ sum-of i (n - 1)
+        new =
+            let y : i + w ≡ n - 1 = omega arith in
+            getD-set-same o i v 0 (omega arith) ∙ e ∙ ap (sum-of i) y
+
+    -- they are those before the next row
+    pub row-taken-sums : Sums (i + 1) (pairs-taken a b tape i w s)
+    unfolding row-taken
+    row-taken-sums = row-end (behind w) _ (length-behind i (backs a b tape i) s w) (row-own w (omega arith)) (row-sums w (omega arith))
+
+-- ---- after all pairs, the sums are the product's shares: the last share has no row of its own
+
+pub sums-all : (d : ℕ) (a b ts o : List ℕ) → length o ≡ d + 1 → Sums (d + 1) a b ts d o → o ≡ product times d a b ts
 sums-all d a b ts o l g =
-    let e : d + 1 - 1 ≡ d = omega arith in
     let f : ℕ → ℕ = λ k. row times (at a) (at b) (drawn (d + 1) ts) k d in
-    sym (rw l at (tab-at o)) ∙ tab-cong (at o) f (d + 1) (λ k h. rw e at (g .whole k h)) ∙ product-rows d a b ts
+    sym (rw l at (tab-at o)) ∙ tab-cong (at o) f (d + 1) each ∙ product-rows d a b ts
+  where
+    each : (k : ℕ) → k < d + 1 → at o k ≡ row times (at a) (at b) (drawn (d + 1) ts) k d
+    each k h = elim (decLt k d) [
+      | yes y ↦ let e : d + 1 - 1 ≡ d = omega arith in rw e at (g .whole k y)
+      | no y ↦ let e : k ≡ d = omega arith in rw e (g .begun d (omega arith) (omega arith))
+    ]

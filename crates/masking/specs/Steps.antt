@@ -1,24 +1,29 @@
--- The two smaller routines that every masked product of bytes is made of, one for a pair and one for a running sum, and what they fill.
+-- What the smaller routines of every masked product of bytes leave: the bytes of a row of pairs, and the running sums that take them in.
 -- Document 01, "The steps over shares", decides. Assumes nothing: these are definitions.
-use mathlib.Core.Path.{_≡_}
 use mathlib.Core.List.{List, [], _∷_}
-use Prim.Native.Nat.{ℕ, suc, _+_, _*_, _-_, _≤_, _<_}
+use Prim.Native.Nat.{ℕ, zero, suc, _+_}
 use lib.Bits.{bitXor}
-use Rattle.xor.specs.Lists.{at, runs}
+use lib.ListN.{set}
+use Rattle.xor.specs.Lists.{at, runs, tab}
 use Rattle.gf256.specs.Field.{times}
-use Rattle.isw.specs.Place.{term, row, drawn}
+use Rattle.isw.specs.Place.{running}
 use Rattle.masking.specs.declared.Pair.{Pair}
 
 -- the five bytes of a pair i < j, from the drawn byte and the shares a_i, b_j, a_j, b_i
 abbrev pub pair-of : (r ai bj aj bi : ℕ) → Pair
-pair-of r ai bj aj bi =
-    record { drawn = r; cross = times ai bj; half = bitXor r (times ai bj); crossed = times aj bi; back = bitXor (bitXor r (times ai bj)) (times aj bi) }
+pair-of r ai bj aj bi = record {
+  drawn = r;
+  cross = times ai bj;
+  half = bitXor r (times ai bj);
+  crossed = times aj bi;
+  back = bitXor (bitXor r (times ai bj)) (times aj bi);
+}
 
 -- in the order of their places
 abbrev pub bytes-of : Pair → List ℕ
 bytes-of p = p .drawn ∷ p .cross ∷ p .half ∷ p .crossed ∷ p .back ∷ []
 
--- the bytes of the pairs of row i, with the shares behind it, whose draws stand at the front of the tape: for pair m, which is that with share i + 1 + m
+-- the bytes of the pairs of row i, with the shares behind it, whose draws stand at the front of the tape: pair m is that with share i + 1 + m
 module _ (a b : List ℕ) where
   -- a_i · b_j
   abbrev pub crosses : (i m : ℕ) → ℕ
@@ -44,15 +49,25 @@ five-rows r c h d k w = runs (λ m. bytes-of (record { drawn = at r m; cross = a
 unfoldable pub row-bytes : (a b tape : List ℕ) (i w : ℕ) → List ℕ
 row-bytes a b ts i w = runs (λ m. bytes-of (pair-of (at ts m) (at a i) (at b (i + 1 + m)) (at a (i + 1 + m)) (at b i))) w
 
--- a table of nine columns that holds each term r(k, j) and r(j, k) of the pairs k < j with k before i, in a product of n shares, at k * 9 + j and j * 9 + k
-pub record Terms-before (n : ℕ) (a b tape : List ℕ) (i : ℕ) (table : List ℕ) : Type 0 where
-  pub both : (k j : ℕ) → k < i → k < j → j < n → (at table (k * 9 + j) ≡ term times (at a) (at b) (drawn n tape) k j) × (at table (j * 9 + k) ≡ term times (at a) (at b) (drawn n tape) j k)
+-- ---- the running sums
 
--- a table of nine columns that holds each term r(i, j) of a product of n shares at i * 9 + j
-pub record Terms (n : ℕ) (a b tape table : List ℕ) : Type 0 where
-  pub at-each : (i j : ℕ) → i < n → j < n → (i ≡ j → ⊥) → at table (i * 9 + j) ≡ term times (at a) (at b) (drawn n tape) i j
+-- their starts, for n shares: a_i · b_i
+abbrev pub starts : (a b : List ℕ) (n : ℕ) → List ℕ
+starts a b n = tab (λ i. times (at a i) (at b i)) n
 
--- the running sums of a product of n shares before row i of its pairs: the shares before i have taken in all their terms, each other share the first i
-pub record Sums (n : ℕ) (a b tape : List ℕ) (i : ℕ) (sums : List ℕ) : Type 0 where
-  pub whole : (k : ℕ) → k < i → at sums k ≡ row times (at a) (at b) (drawn n tape) k (n - 1)
-  pub begun : (k : ℕ) → i ≤ k → k < n → at sums k ≡ row times (at a) (at b) (drawn n tape) k i
+-- share i's own after each of the w draws of its row
+abbrev pub owns : (tape sums : List ℕ) (i w : ℕ) → List ℕ
+owns ts s i w = tab (λ m. running (at s i) (at ts) (m + 1)) w
+
+-- those of the shares behind i, once the first m of them have taken in theirs of the row's backs: share i + 1 + m takes in back m
+unfoldable pub behind-taken : (i : ℕ) (back : ℕ → ℕ) (sums : List ℕ) (m : ℕ) → List ℕ
+behind-taken i f s zero = s
+behind-taken i f s (suc m) = set (behind-taken i f s m) (i + 1 + m) (bitXor (at (behind-taken i f s m) (i + 1 + m)) (f m))
+
+-- all of them after a row of w pairs: share i has taken in the row's draws, one after another, each share behind it one of the backs
+unfoldable pub row-taken : (i w : ℕ) (draws back : ℕ → ℕ) (sums : List ℕ) → List ℕ
+row-taken i w r f s = set (behind-taken i f s w) i (running (at s i) r w)
+
+-- all of them after row i of the pairs, with the shares i + 1 to i + w
+abbrev pub pairs-taken : (a b tape : List ℕ) (i w : ℕ) (sums : List ℕ) → List ℕ
+pairs-taken a b ts i w s = row-taken i w (at ts) (backs a b ts i) s

@@ -1,21 +1,16 @@
-// The masked product of two bytes in shares: each share's running sum takes in its terms pair by pair, in the order of the draws. Document 01, "The steps
-// over shares", decides.
+// The masked product of two bytes in shares: each share's running sum takes in its terms pair by pair, in the order of the draws.
+// Document 01, "The steps over shares", decides.
 ghost use mathlib.Core.Path.{_≡_};
-ghost use mathlib.Core.List.{List};
-ghost use Prim.Native.Nat.{ℕ, _+_, _≤_, _<_};
-ghost use lib.ListN.{length, drop};
-ghost use Rattle.xor.specs.Lists.{at, tab};
+ghost use Prim.Native.Nat.{_+_, _≤_, _<_};
+ghost use lib.ListN.{length};
 ghost use Rattle.gf256.specs.Field as Field;
 ghost use Rattle.gf256.specs.Tables.{Tables};
 ghost use Rattle.isw.specs.Place as Place;
 ghost use Rattle.shares.specs.Outcome.{outcome};
-ghost use Rattle.shares.specs.Writes.{front};
 ghost use Rattle.masking.specs.Steps;
-ghost use Rattle.masking.specs.Steps.{Sums};
 ghost use Rattle.masking.specs.Calls.{two-fit, Product-outcome};
 use gf256::Antilogs;
 use gf256::Logs;
-use gf256::table_product::table_times;
 use shares::Answer;
 use shares::Refusal;
 
@@ -38,34 +33,8 @@ pub fn two_fit(d: usize, a: &[u8], b: &[u8]) -> bool
     false
 }
 
-// The start of each running sum: a_i · b_i.
-fn start_sums(logs: &Logs, antilogs: &Antilogs, n: usize, a: &[u8], b: &[u8], output: &mut [u8])
-    requires { ⌜ (length (now output) ≡ n) × (length (now a) ≡ n) × (length (now b) ≡ n) × Tables (now logs) (now antilogs) ⌝ }
-    ensures { λ _. ⌜ now (output .exit) ≡ tab (λ i. Field.times (at (now (a .entry)) i) (at (now (b .entry)) i)) n ⌝ }
-{
-    for i in 0..n {
-        output[i] = table_times(logs, antilogs, a[i], b[i]);
-    }
-}
-
-// The pairs of row i with the w shares behind it go into the running sums: the draws, which stand at the front of the tape, into that of share i,
-// whose bytes on the way are left in own; each r(j, i) of the row back into that of share j.
-fn sum_row(i: usize, w: usize, tape: &[u8], back: &[u8], own: &mut [u8], sums: &mut [u8])
-    requires { ⌜ (0 < w) × (i + 1 + w ≤ 9) × (w ≤ length (now tape)) × (w ≤ length (now back)) × (w ≤ length (now own)) × (i + 1 + w ≤ length (now sums)) ⌝ }
-    ensures { λ _. ⌜ (now (own .exit) ≡ front (tab (λ m. Place.running (at (now (sums .entry)) i) (at (now (tape .entry))) (m + 1)) w) (now (own .entry))) × ((n : ℕ) (a b ts : List ℕ) → n ≡ i + 1 + w → now (tape .entry) ≡ drop (Place.before-row n i) ts → ((m : ℕ) → m < w → at (now (back .entry)) m ≡ Steps.backs a b (now (tape .entry)) i m) → Sums n a b ts i (now (sums .entry)) → Sums n a b ts (i + 1) (now (sums .exit))) ⌝ }
-{
-    let mut s = sums[i];
-    for m in 0..w {
-        let j = i + 1 + m;
-        s = crate::steps::sum_step(s, tape[m]);
-        own[m] = s;
-        sums[j] = crate::steps::sum_step(sums[j], back[m]);
-    }
-    sums[i] = own[w - 1];
-}
-
-// Row i of the pairs, and its running sums. Answers with how many bytes were drawn.
-fn take_row(
+// Row i of the pairs and its running sums, on rows of its own. Answers with how many bytes were drawn.
+fn product_row(
     logs: &Logs,
     antilogs: &Antilogs,
     i: usize,
@@ -73,17 +42,19 @@ fn take_row(
     a: &[u8],
     b: &[u8],
     tape: &[u8],
-    cross: &mut [u8],
-    half: &mut [u8],
-    crossed: &mut [u8],
-    back: &mut [u8],
-    own: &mut [u8],
     sums: &mut [u8],
 ) -> usize
-    requires { ⌜ (0 < w) × (i + 1 + w ≤ 9) × (i + 1 + w ≤ length (now a)) × (i + 1 + w ≤ length (now b)) × (w ≤ length (now tape)) × (w ≤ length (now cross)) × (w ≤ length (now half)) × (w ≤ length (now crossed)) × (w ≤ length (now back)) × (w ≤ length (now own)) × (i + 1 + w ≤ length (now sums)) × Tables (now logs) (now antilogs) ⌝ }
-    ensures { λ k. ⌜ (k ≡ w) × (now (cross .exit) ≡ front (tab (Steps.crosses (now (a .entry)) (now (b .entry)) i) w) (now (cross .entry))) × (now (half .exit) ≡ front (tab (Steps.halves (now (a .entry)) (now (b .entry)) (now (tape .entry)) i) w) (now (half .entry))) × (now (crossed .exit) ≡ front (tab (Steps.crosseds (now (a .entry)) (now (b .entry)) i) w) (now (crossed .entry))) × (now (back .exit) ≡ front (tab (Steps.backs (now (a .entry)) (now (b .entry)) (now (tape .entry)) i) w) (now (back .entry))) × (now (own .exit) ≡ front (tab (λ m. Place.running (at (now (sums .entry)) i) (at (now (tape .entry))) (m + 1)) w) (now (own .entry))) × ((n : ℕ) (ts : List ℕ) → n ≡ i + 1 + w → now (tape .entry) ≡ drop (Place.before-row n i) ts → Sums n (now (a .entry)) (now (b .entry)) ts i (now (sums .entry)) → Sums n (now (a .entry)) (now (b .entry)) ts (i + 1) (now (sums .exit))) ⌝ }
+    requires { ⌜ (0 < w) × (i + 1 + w ≤ 9) × (i + 1 + w ≤ length (now a)) × (i + 1 + w ≤ length (now b))
+        × (w ≤ length (now tape)) × (i + 1 + w ≤ length (now sums)) × Tables (now logs) (now antilogs) ⌝ }
+    ensures { λ k. ⌜ (k ≡ w)
+        × (now (sums .exit) ≡ Steps.pairs-taken (now (a .entry)) (now (b .entry)) (now (tape .entry)) i w (now (sums .entry))) ⌝ }
 {
-    let drawn = crate::steps::pair_row(
+    let mut cross = [0u8; 8];
+    let mut half = [0u8; 8];
+    let mut crossed = [0u8; 8];
+    let mut back = [0u8; 8];
+    let mut own = [0u8; 8];
+    crate::steps::take_row(
         logs,
         antilogs,
         i,
@@ -91,16 +62,16 @@ fn take_row(
         a,
         b,
         tape,
-        cross,
-        half,
-        crossed,
-        back,
-    );
-    sum_row(i, w, tape, back, own, sums);
-    drawn
+        &mut cross,
+        &mut half,
+        &mut crossed,
+        &mut back,
+        &mut own,
+        sums,
+    )
 }
 
-// All pairs, in the order of the draws, with five rows of room. Answers with how many bytes were drawn.
+// All pairs, in the order of the draws, into the sums, which have their starts. Answers with how many bytes were drawn.
 fn take_pairs(
     logs: &Logs,
     antilogs: &Antilogs,
@@ -108,33 +79,17 @@ fn take_pairs(
     a: &[u8],
     b: &[u8],
     tape: &[u8],
-    cross: &mut [u8],
-    half: &mut [u8],
-    crossed: &mut [u8],
-    back: &mut [u8],
-    own: &mut [u8],
     sums: &mut [u8],
 ) -> usize
-    requires { ⌜ (d ≤ 8) × (length (now sums) ≡ d + 1) × (length (now a) ≡ d + 1) × (length (now b) ≡ d + 1) × (Place.before-row (d + 1) (d + 1) ≤ length (now tape)) × (d ≤ length (now cross)) × (d ≤ length (now half)) × (d ≤ length (now crossed)) × (d ≤ length (now back)) × (d ≤ length (now own)) × Tables (now logs) (now antilogs) ⌝ }
-    ensures { λ k. ⌜ (k ≡ Place.before-row (d + 1) (d + 1)) × (Sums (d + 1) (now (a .entry)) (now (b .entry)) (now (tape .entry)) 0 (now (sums .entry)) → Sums (d + 1) (now (a .entry)) (now (b .entry)) (now (tape .entry)) (d + 1) (now (sums .exit))) ⌝ }
+    requires { ⌜ (d ≤ 8) × (length (now a) ≡ d + 1) × (length (now b) ≡ d + 1)
+        × (Place.product-need d ≤ length (now tape)) × (now sums ≡ Steps.starts (now a) (now b) (d + 1))
+        × Tables (now logs) (now antilogs) ⌝ }
+    ensures { λ k. ⌜ (k ≡ Place.product-need d)
+        × (now (sums .exit) ≡ Place.product Field.times d (now (a .entry)) (now (b .entry)) (now (tape .entry))) ⌝ }
 {
     let mut drawn: usize = 0;
     for i in 0..d {
-        drawn += take_row(
-            logs,
-            antilogs,
-            i,
-            d - i,
-            a,
-            b,
-            &tape[drawn..],
-            cross,
-            half,
-            crossed,
-            back,
-            own,
-            sums,
-        );
+        drawn += product_row(logs, antilogs, i, d - i, a, b, &tape[drawn..], sums);
     }
     drawn
 }
@@ -149,29 +104,13 @@ pub fn product_core(
     tape: &[u8],
     output: &mut [u8],
 ) -> usize
-    requires { ⌜ (d ≤ 8) × (length (now output) ≡ d + 1) × (length (now a) ≡ d + 1) × (length (now b) ≡ d + 1) × (Place.product-need d ≤ length (now tape)) × Tables (now logs) (now antilogs) ⌝ }
-    ensures { λ k. ⌜ (k ≡ Place.product-need d) × (now (output .exit) ≡ Place.product Field.times d (now (a .entry)) (now (b .entry)) (now (tape .entry))) ⌝ }
+    requires { ⌜ (d ≤ 8) × (length (now output) ≡ d + 1) × (length (now a) ≡ d + 1) × (length (now b) ≡ d + 1)
+        × (Place.product-need d ≤ length (now tape)) × Tables (now logs) (now antilogs) ⌝ }
+    ensures { λ k. ⌜ (k ≡ Place.product-need d)
+        × (now (output .exit) ≡ Place.product Field.times d (now (a .entry)) (now (b .entry)) (now (tape .entry))) ⌝ }
 {
-    let mut cross = [0u8; 8];
-    let mut half = [0u8; 8];
-    let mut crossed = [0u8; 8];
-    let mut back = [0u8; 8];
-    let mut own = [0u8; 8];
-    start_sums(logs, antilogs, d + 1, a, b, output);
-    take_pairs(
-        logs,
-        antilogs,
-        d,
-        a,
-        b,
-        tape,
-        &mut cross,
-        &mut half,
-        &mut crossed,
-        &mut back,
-        &mut own,
-        output,
-    )
+    crate::steps::start_sums(logs, antilogs, d + 1, a, b, output);
+    take_pairs(logs, antilogs, d, a, b, tape, output)
 }
 
 pub fn masked_product(
@@ -181,7 +120,8 @@ pub fn masked_product(
     tape: &[u8],
     output: &mut [u8],
 ) -> Answer
-    ensures { λ r. ⌜ outcome r (now (output .exit)) ≡ Product-outcome order (now (left .entry)) (now (right .entry)) (now (tape .entry)) (now (output .entry)) ⌝ }
+    ensures { λ r. ⌜ outcome r (now (output .exit))
+        ≡ Product-outcome order (now (left .entry)) (now (right .entry)) (now (tape .entry)) (now (output .entry)) ⌝ }
 {
     if shares::answers::unserved(order) {
         return Answer::Refused(Refusal::Order);

@@ -1,21 +1,21 @@
-// The sheet of a masked product: the byte at each of its places, in their order.
+// The sheet of a masked product: the byte at each of its places, in their order. No byte of it is computed here: each is one that the product's own
+// routines left. Document 01, "Places in one product", decides.
 ghost use mathlib.Core.Path.{_≡_};
-ghost use mathlib.Core.List.{List, map};
-ghost use Prim.Native.Nat.{ℕ, _+_, _*_, _-_, _≤_, _<_};
-ghost use lib.ListN.{length, drop};
-ghost use Rattle.xor.specs.Lists.{at, runs, tab};
+ghost use Prim.Native.Nat.{_+_, _*_, _≤_, _<_};
+ghost use lib.ListN.{length};
+ghost use Rattle.xor.specs.Lists.{at};
 ghost use Rattle.gf256.specs.Field as Field;
 ghost use Rattle.gf256.specs.Tables.{Tables};
 ghost use Rattle.isw.specs.Place as Place;
 ghost use Rattle.shares.specs.Outcome.{outcome};
 ghost use Rattle.shares.specs.Writes.{front};
 ghost use Rattle.masking.specs.Steps;
-ghost use Rattle.masking.specs.Steps.{bytes-of, five-rows, row-bytes, Terms, Terms-before};
+ghost use Rattle.masking.specs.Steps.{bytes-of, five-rows};
+ghost use Rattle.masking.specs.Parts.{pairs-before, sums-before, starts-put, row-put, table-rows};
 ghost use Rattle.masking.specs.Calls.{Sheet-outcome};
 use crate::Pair;
 use gf256::Antilogs;
 use gf256::Logs;
-use gf256::table_product::table_times;
 use shares::Answer;
 use shares::Refusal;
 
@@ -50,8 +50,11 @@ fn put_row(
     back: &[u8],
     out: &mut [u8],
 )
-    requires { ⌜ (w ≤ 8) × (w ≤ length (now tape)) × (w ≤ length (now cross)) × (w ≤ length (now half)) × (w ≤ length (now crossed)) × (w ≤ length (now back)) × (5 * w ≤ length (now out)) ⌝ }
-    ensures { λ _. ⌜ now (out .exit) ≡ front (five-rows (now (tape .entry)) (now (cross .entry)) (now (half .entry)) (now (crossed .entry)) (now (back .entry)) w) (now (out .entry)) ⌝ }
+    requires { ⌜ (w ≤ 8) × (w ≤ length (now tape)) × (w ≤ length (now cross)) × (w ≤ length (now half))
+        × (w ≤ length (now crossed)) × (w ≤ length (now back)) × (5 * w ≤ length (now out)) ⌝ }
+    ensures { λ _. ⌜ now (out .exit)
+        ≡ front (five-rows (now (tape .entry)) (now (cross .entry)) (now (half .entry)) (now (crossed .entry)) (now (back .entry)) w)
+        (now (out .entry)) ⌝ }
 {
     for m in 0..w {
         let p = Pair {
@@ -66,19 +69,31 @@ fn put_row(
     }
 }
 
-// The terms of a row of pairs, into a table of nine columns: r(i, j) at i * 9 + j.
-fn put_terms(i: usize, w: usize, tape: &[u8], back: &[u8], table: &mut [u8])
-    requires { ⌜ (i + 1 + w ≤ 9) × (w ≤ length (now tape)) × (w ≤ length (now back)) × (length (now table) ≡ 81) ⌝ }
-    ensures { λ _. ⌜ ((n : ℕ) (a b ts : List ℕ) → n ≡ i + 1 + w → now (tape .entry) ≡ drop (Place.before-row n i) ts → ((m : ℕ) → m < w → at (now (back .entry)) m ≡ Steps.backs a b (now (tape .entry)) i m) → Terms-before n a b ts i (now (table .entry)) → Terms-before n a b ts (i + 1) (now (table .exit))) ⌝ }
+// The starts of the running sums of n shares, into column 0 of the table: that of share k after q of its terms stands at k * 9 + q.
+fn put_starts(n: usize, sums: &[u8], table: &mut [u8])
+    requires { ⌜ (n ≤ 9) × (length (now sums) ≡ n) × (length (now table) ≡ 81) ⌝ }
+    ensures { λ _. ⌜ now (table .exit) ≡ starts-put (at (now (sums .entry))) (now (table .entry)) n ⌝ }
 {
-    for m in 0..w {
-        let j = i + 1 + m;
-        table[i * 9 + j] = tape[m];
-        table[j * 9 + i] = back[m];
+    for k in 0..n {
+        table[k * 9] = sums[k];
     }
 }
 
-// Row i of the pairs, over the front of out, and its terms into the table. Answers with how many bytes were drawn.
+// What a row of pairs made of the running sums, into the table: share i's own, one after each draw, and that of each share behind it.
+fn put_sums(i: usize, w: usize, own: &[u8], sums: &[u8], table: &mut [u8])
+    requires { ⌜ (i + 1 + w ≤ 9) × (w ≤ length (now own)) × (i + 1 + w ≤ length (now sums)) × (length (now table) ≡ 81) ⌝ }
+    ensures { λ _. ⌜ now (table .exit) ≡ row-put i (at (now (own .entry))) (at (now (sums .entry))) (now (table .entry)) w ⌝ }
+{
+    let next = i + 1;
+    for m in 0..w {
+        let j = next + m;
+        table[i * 9 + j] = own[m];
+        table[j * 9 + next] = sums[j];
+    }
+}
+
+// Row i of the pairs as the product takes it, over the front of out, and what it made of the running sums, into the table.
+// Answers with how many bytes were drawn.
 fn sheet_row(
     logs: &Logs,
     antilogs: &Antilogs,
@@ -87,17 +102,26 @@ fn sheet_row(
     a: &[u8],
     b: &[u8],
     tape: &[u8],
-    cross: &mut [u8],
-    half: &mut [u8],
-    crossed: &mut [u8],
-    back: &mut [u8],
+    sums: &mut [u8],
     table: &mut [u8],
     out: &mut [u8],
 ) -> usize
-    requires { ⌜ (i + 1 + w ≤ 9) × (i + 1 + w ≤ length (now a)) × (i + 1 + w ≤ length (now b)) × (w ≤ length (now tape)) × (w ≤ length (now cross)) × (w ≤ length (now half)) × (w ≤ length (now crossed)) × (w ≤ length (now back)) × (length (now table) ≡ 81) × (5 * w ≤ length (now out)) × Tables (now logs) (now antilogs) ⌝ }
-    ensures { λ k. ⌜ (k ≡ w) × (now (out .exit) ≡ front (row-bytes (now (a .entry)) (now (b .entry)) (now (tape .entry)) i w) (now (out .entry))) × ((n : ℕ) (ts : List ℕ) → n ≡ i + 1 + w → now (tape .entry) ≡ drop (Place.before-row n i) ts → Terms-before n (now (a .entry)) (now (b .entry)) ts i (now (table .entry)) → Terms-before n (now (a .entry)) (now (b .entry)) ts (i + 1) (now (table .exit))) ⌝ }
+    requires { ⌜ (0 < w) × (i + 1 + w ≤ 9) × (i + 1 + w ≤ length (now a)) × (i + 1 + w ≤ length (now b))
+        × (w ≤ length (now tape)) × (i + 1 + w ≤ length (now sums)) × (length (now table) ≡ 81)
+        × (5 * w ≤ length (now out)) × Tables (now logs) (now antilogs) ⌝ }
+    ensures { λ k. ⌜ (k ≡ w)
+        × (now (out .exit) ≡ front (Steps.row-bytes (now (a .entry)) (now (b .entry)) (now (tape .entry)) i w) (now (out .entry)))
+        × (now (sums .exit) ≡ Steps.pairs-taken (now (a .entry)) (now (b .entry)) (now (tape .entry)) i w (now (sums .entry)))
+        × (now (table .exit)
+        ≡ row-put i (λ m. Place.running (at (now (sums .entry)) i) (at (now (tape .entry))) (m + 1))
+        (at (now (sums .exit))) (now (table .entry)) w) ⌝ }
 {
-    let drawn = crate::steps::pair_row(
+    let mut cross = [0u8; 8];
+    let mut half = [0u8; 8];
+    let mut crossed = [0u8; 8];
+    let mut back = [0u8; 8];
+    let mut own = [0u8; 8];
+    let drawn = crate::steps::take_row(
         logs,
         antilogs,
         i,
@@ -105,99 +129,75 @@ fn sheet_row(
         a,
         b,
         tape,
-        cross,
-        half,
-        crossed,
-        back,
+        &mut cross,
+        &mut half,
+        &mut crossed,
+        &mut back,
+        &mut own,
+        sums,
     );
-    put_row(w, tape, cross, half, crossed, back, out);
-    put_terms(i, w, tape, back, table);
+    put_row(w, tape, &cross, &half, &crossed, &back, out);
+    put_sums(i, w, &own, sums, table);
     drawn
 }
 
-// All pairs, over the front of out, and their terms into the table. Answers with how many bytes were drawn.
+// All pairs, over the front of out, and all running sums, into the table, with room for n sums. Answers with how many bytes were drawn.
 fn sheet_rows(
-    logs: &Logs,
-    antilogs: &Antilogs,
-    n: usize,
-    a: &[u8],
-    b: &[u8],
-    tape: &[u8],
-    cross: &mut [u8],
-    half: &mut [u8],
-    crossed: &mut [u8],
-    back: &mut [u8],
-    table: &mut [u8],
-    out: &mut [u8],
-) -> usize
-    requires { ⌜ (n ≤ 9) × (length (now a) ≡ n) × (length (now b) ≡ n) × (Place.before-row n n ≤ length (now tape)) × (n ≤ length (now cross) + 1) × (n ≤ length (now half) + 1) × (n ≤ length (now crossed) + 1) × (n ≤ length (now back) + 1) × (length (now table) ≡ 81) × (5 * Place.before-row n n ≤ length (now out)) × Tables (now logs) (now antilogs) ⌝ }
-    ensures { λ k. ⌜ (k ≡ Place.before-row n n) × (now (out .exit) ≡ front (map (Place.byte Field.times (at (now (a .entry))) (at (now (b .entry))) (Place.drawn n (now (tape .entry)))) (runs (Place.pair-row n) n)) (now (out .entry))) × Terms n (now (a .entry)) (now (b .entry)) (now (tape .entry)) (now (table .exit)) ⌝ }
-{
-    let mut drawn: usize = 0;
-    for i in 0..n {
-        let w = n - (i + 1);
-        let at = 5 * drawn;
-        drawn += sheet_row(
-            logs,
-            antilogs,
-            i,
-            w,
-            a,
-            b,
-            &tape[drawn..],
-            cross,
-            half,
-            crossed,
-            back,
-            table,
-            &mut out[at..],
-        );
-    }
-    drawn
-}
-
-// The running sums of row i, over the front of out.
-fn sheet_run(i: usize, d: usize, start: u8, table: &[u8], out: &mut [u8])
-    requires { ⌜ (d ≤ 8) × (i ≤ d) × (length (now table) ≡ 81) × (d < length (now out)) ⌝ }
-    ensures { λ _. ⌜ now (out .exit) ≡ front (tab (λ k. Place.running start (λ m. at (now (table .entry)) (i * 9 + Place.skip i m)) k) (d + 1)) (now (out .entry)) ⌝ }
-{
-    let mut s = start;
-    for k in 0..d {
-        out[k] = s;
-        let j = crate::steps::skip(i, k);
-        s = crate::steps::sum_step(s, table[i * 9 + j]);
-    }
-    out[d] = s;
-}
-
-// All running sums, over the front of out.
-fn sheet_runs(
     logs: &Logs,
     antilogs: &Antilogs,
     d: usize,
     a: &[u8],
     b: &[u8],
-    table: &[u8],
+    tape: &[u8],
+    sums: &mut [u8],
+    table: &mut [u8],
     out: &mut [u8],
-)
-    requires { ⌜ (d ≤ 8) × (length (now a) ≡ d + 1) × (length (now b) ≡ d + 1) × (length (now table) ≡ 81) × ((d + 1) * (d + 1) ≤ length (now out)) × Tables (now logs) (now antilogs) ⌝ }
-    ensures { λ _. ⌜ ((ts : List ℕ) → Terms (d + 1) (now (a .entry)) (now (b .entry)) ts (now (table .entry)) → now (out .exit) ≡ front (map (Place.byte Field.times (at (now (a .entry))) (at (now (b .entry))) (Place.drawn (d + 1) ts)) (runs (Place.row-places (d + 1)) (d + 1))) (now (out .entry))) ⌝ }
+) -> usize
+    requires { ⌜ (d ≤ 8) × (length (now a) ≡ d + 1) × (length (now b) ≡ d + 1)
+        × (Place.product-need d ≤ length (now tape)) × (length (now sums) ≡ d + 1)
+        × (length (now table) ≡ 81) × (5 * Place.product-need d ≤ length (now out))
+        × Tables (now logs) (now antilogs) ⌝ }
+    ensures { λ k. ⌜ (k ≡ Place.product-need d)
+        × (now (out .exit) ≡ front (pairs-before (d + 1) (now (a .entry)) (now (b .entry)) (now (tape .entry)) (d + 1)) (now (out .entry)))
+        × (table-rows (d + 1) (now (table .exit)) (d + 1) ≡ sums-before (d + 1) (now (a .entry)) (now (b .entry)) (now (tape .entry)) (d + 1)) ⌝ }
 {
     let n = d + 1;
-    let mut at: usize = 0;
-    for i in 0..n {
-        sheet_run(
+    crate::steps::start_sums(logs, antilogs, n, a, b, sums);
+    put_starts(n, sums, table);
+    let mut drawn: usize = 0;
+    for i in 0..d {
+        let at = 5 * drawn;
+        drawn += sheet_row(
+            logs,
+            antilogs,
             i,
-            d,
-            table_times(logs, antilogs, a[i], b[i]),
+            d - i,
+            a,
+            b,
+            &tape[drawn..],
+            sums,
             table,
             &mut out[at..],
         );
-        at += n;
+    }
+    drawn
+}
+
+// The running sums of n shares, from the table, over the front of out.
+fn put_table(n: usize, table: &[u8], out: &mut [u8])
+    requires { ⌜ (n ≤ 9) × (length (now table) ≡ 81) × (n * n ≤ length (now out)) ⌝ }
+    ensures { λ _. ⌜ now (out .exit) ≡ front (table-rows n (now (table .entry)) n) (now (out .entry)) ⌝ }
+{
+    let mut filled: usize = 0;
+    for k in 0..n {
+        let start = k * 9;
+        let end = start + n;
+        shares::bytes::put(&table[start..end], &mut out[filled..]);
+        filled += n;
     }
 }
 
-// The whole sheet, with four rows and a table of room. Answers with how many bytes were drawn.
+// The whole sheet, with room for n sums and a table. Answers with how many bytes were drawn.
 fn sheet_with(
     logs: &Logs,
     antilogs: &Antilogs,
@@ -205,15 +205,15 @@ fn sheet_with(
     a: &[u8],
     b: &[u8],
     tape: &[u8],
-    cross: &mut [u8],
-    half: &mut [u8],
-    crossed: &mut [u8],
-    back: &mut [u8],
+    sums: &mut [u8],
     table: &mut [u8],
     out: &mut [u8],
 ) -> usize
-    requires { ⌜ (d ≤ 8) × (length (now a) ≡ d + 1) × (length (now b) ≡ d + 1) × (Place.product-need d ≤ length (now tape)) × (length (now cross) ≡ 8) × (length (now half) ≡ 8) × (length (now crossed) ≡ 8) × (length (now back) ≡ 8) × (length (now table) ≡ 81) × (length (now out) ≡ Place.place-count d) × Tables (now logs) (now antilogs) ⌝ }
-    ensures { λ k. ⌜ (k ≡ Place.product-need d) × (now (out .exit) ≡ Place.sheet Field.times d (now (a .entry)) (now (b .entry)) (now (tape .entry))) ⌝ }
+    requires { ⌜ (d ≤ 8) × (length (now a) ≡ d + 1) × (length (now b) ≡ d + 1)
+        × (Place.product-need d ≤ length (now tape)) × (length (now sums) ≡ d + 1) × (length (now table) ≡ 81)
+        × (length (now out) ≡ Place.place-count d) × Tables (now logs) (now antilogs) ⌝ }
+    ensures { λ k. ⌜ (k ≡ Place.product-need d)
+        × (now (out .exit) ≡ Place.sheet Field.times d (now (a .entry)) (now (b .entry)) (now (tape .entry))) ⌝ }
 {
     let n = d + 1;
     shares::bytes::put(a, out);
@@ -222,19 +222,16 @@ fn sheet_with(
     let drawn = sheet_rows(
         logs,
         antilogs,
-        n,
+        d,
         a,
         b,
         tape,
-        cross,
-        half,
-        crossed,
-        back,
+        sums,
         table,
         &mut out[pairs..],
     );
-    let sums = pairs + 5 * drawn;
-    sheet_runs(logs, antilogs, d, a, b, table, &mut out[sums..]);
+    let behind = pairs + 5 * drawn;
+    put_table(n, table, &mut out[behind..]);
     drawn
 }
 
@@ -248,14 +245,15 @@ pub fn sheet_core(
     tape: &[u8],
     out: &mut [u8],
 ) -> usize
-    requires { ⌜ (d ≤ 8) × (length (now a) ≡ d + 1) × (length (now b) ≡ d + 1) × (Place.product-need d ≤ length (now tape)) × (length (now out) ≡ Place.place-count d) × Tables (now logs) (now antilogs) ⌝ }
-    ensures { λ k. ⌜ (k ≡ Place.product-need d) × (now (out .exit) ≡ Place.sheet Field.times d (now (a .entry)) (now (b .entry)) (now (tape .entry))) ⌝ }
+    requires { ⌜ (d ≤ 8) × (length (now a) ≡ d + 1) × (length (now b) ≡ d + 1)
+        × (Place.product-need d ≤ length (now tape)) × (length (now out) ≡ Place.place-count d)
+        × Tables (now logs) (now antilogs) ⌝ }
+    ensures { λ k. ⌜ (k ≡ Place.product-need d)
+        × (now (out .exit) ≡ Place.sheet Field.times d (now (a .entry)) (now (b .entry)) (now (tape .entry))) ⌝ }
 {
-    let mut cross = [0u8; 8];
-    let mut half = [0u8; 8];
-    let mut crossed = [0u8; 8];
-    let mut back = [0u8; 8];
+    let mut sums = [0u8; 9];
     let mut table = [0u8; 81];
+    let n = d + 1;
     sheet_with(
         logs,
         antilogs,
@@ -263,10 +261,7 @@ pub fn sheet_core(
         a,
         b,
         tape,
-        &mut cross,
-        &mut half,
-        &mut crossed,
-        &mut back,
+        &mut sums[0..n],
         &mut table,
         out,
     )
@@ -279,7 +274,8 @@ pub fn product_sheet(
     tape: &[u8],
     output: &mut [u8],
 ) -> Answer
-    ensures { λ r. ⌜ outcome r (now (output .exit)) ≡ Sheet-outcome order (now (left .entry)) (now (right .entry)) (now (tape .entry)) (now (output .entry)) ⌝ }
+    ensures { λ r. ⌜ outcome r (now (output .exit))
+        ≡ Sheet-outcome order (now (left .entry)) (now (right .entry)) (now (tape .entry)) (now (output .entry)) ⌝ }
 {
     if shares::answers::unserved(order) {
         return Answer::Refused(Refusal::Order);

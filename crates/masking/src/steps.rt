@@ -1,15 +1,19 @@
-// The smaller routines that every masked product and every sheet goes through, so that a sheet shows the product's own steps: one for the pairs of
-// a row, and one for a step of a running sum.
+// The routines that every masked product and every sheet goes through, so that a sheet shows the very bytes that the product's own row leaves.
+// Document 01, "The steps over shares", decides.
 //
 // Each XOR of a pair stands in a loop of its own, and what it gives goes through a lent row to the next: so no two of them meet in one expression,
 // and a compiler has no brackets to move.
+//
+// THE RULE for whoever changes masked code:
+// - no loop over shares has a constant bound, and no function is written for each order: an unrolled loop is one expression again;
+// - no two XORs of one chain stand in one loop;
+// - every row that carries a chain is read by a later loop;
+// - after any change, run tests/machine/run. It tests the built library: every byte that the machine holds is a function of one place.
 ghost use mathlib.Core.Path.{_≡_};
-ghost use mathlib.Core.List.{List};
-ghost use Prim.Native.Nat.{ℕ, _+_, _≤_, _<_};
+ghost use Prim.Native.Nat.{_+_, _≤_, _<_};
 ghost use lib.Bits.{bitXor};
-ghost use lib.ListN.{length, drop};
+ghost use lib.ListN.{length};
 ghost use Rattle.xor.specs.Lists.{at, tab};
-ghost use Rattle.gf256.specs.Field as Field;
 ghost use Rattle.gf256.specs.Tables.{Tables};
 ghost use Rattle.isw.specs.Place as Place;
 ghost use Rattle.shares.specs.Writes.{front};
@@ -17,6 +21,17 @@ ghost use Rattle.masking.specs.Steps;
 use gf256::Antilogs;
 use gf256::Logs;
 use gf256::table_product::table_times;
+
+// The start of each running sum: a_i · b_i.
+pub fn start_sums(logs: &Logs, antilogs: &Antilogs, n: usize, a: &[u8], b: &[u8], output: &mut [u8])
+    requires { ⌜ (length (now output) ≡ n) × (length (now a) ≡ n) × (length (now b) ≡ n)
+        × Tables (now logs) (now antilogs) ⌝ }
+    ensures { λ _. ⌜ now (output .exit) ≡ Steps.starts (now (a .entry)) (now (b .entry)) n ⌝ }
+{
+    for i in 0..n {
+        output[i] = table_times(logs, antilogs, a[i], b[i]);
+    }
+}
 
 // The first half of the pairs of row i with the w shares behind it: draws r(i, j), and takes a_i · b_j into it. Answers with how many bytes
 // were drawn.
@@ -31,8 +46,12 @@ fn half_row(
     cross: &mut [u8],
     half: &mut [u8],
 ) -> usize
-    requires { ⌜ (i + 1 + w ≤ 9) × (i + 1 + w ≤ length (now a)) × (i + 1 + w ≤ length (now b)) × (w ≤ length (now tape)) × (w ≤ length (now cross)) × (w ≤ length (now half)) × Tables (now logs) (now antilogs) ⌝ }
-    ensures { λ k. ⌜ (k ≡ w) × (now (cross .exit) ≡ front (tab (Steps.crosses (now (a .entry)) (now (b .entry)) i) w) (now (cross .entry))) × (now (half .exit) ≡ front (tab (Steps.halves (now (a .entry)) (now (b .entry)) (now (tape .entry)) i) w) (now (half .entry))) ⌝ }
+    requires { ⌜ (i + 1 + w ≤ 9) × (i + 1 + w ≤ length (now a)) × (i + 1 + w ≤ length (now b))
+        × (w ≤ length (now tape)) × (w ≤ length (now cross)) × (w ≤ length (now half))
+        × Tables (now logs) (now antilogs) ⌝ }
+    ensures { λ k. ⌜ (k ≡ w)
+        × (now (cross .exit) ≡ front (tab (Steps.crosses (now (a .entry)) (now (b .entry)) i) w) (now (cross .entry)))
+        × (now (half .exit) ≡ front (tab (Steps.halves (now (a .entry)) (now (b .entry)) (now (tape .entry)) i) w) (now (half .entry))) ⌝ }
 {
     let ai = a[i];
     let mut drawn: usize = 0;
@@ -58,8 +77,13 @@ fn back_row(
     crossed: &mut [u8],
     back: &mut [u8],
 )
-    requires { ⌜ (i + 1 + w ≤ 9) × (i + 1 + w ≤ length (now a)) × (i + 1 + w ≤ length (now b)) × (w ≤ length (now half)) × (w ≤ length (now crossed)) × (w ≤ length (now back)) × Tables (now logs) (now antilogs) ⌝ }
-    ensures { λ _. ⌜ (now (crossed .exit) ≡ front (tab (Steps.crosseds (now (a .entry)) (now (b .entry)) i) w) (now (crossed .entry))) × (now (back .exit) ≡ front (tab (λ m. bitXor (at (now (half .entry)) m) (Steps.crosseds (now (a .entry)) (now (b .entry)) i m)) w) (now (back .entry))) ⌝ }
+    requires { ⌜ (i + 1 + w ≤ 9) × (i + 1 + w ≤ length (now a)) × (i + 1 + w ≤ length (now b))
+        × (w ≤ length (now half)) × (w ≤ length (now crossed)) × (w ≤ length (now back))
+        × Tables (now logs) (now antilogs) ⌝ }
+    ensures { λ _. ⌜ (now (crossed .exit) ≡ front (tab (Steps.crosseds (now (a .entry)) (now (b .entry)) i) w) (now (crossed .entry)))
+        × (now (back .exit)
+        ≡ front (tab (λ m. bitXor (at (now (half .entry)) m) (Steps.crosseds (now (a .entry)) (now (b .entry)) i m)) w)
+        (now (back .entry))) ⌝ }
 {
     let bi = b[i];
     for m in 0..w {
@@ -71,7 +95,7 @@ fn back_row(
 
 // The pairs of row i with the w shares behind it, whose draws stand at the front of the tape: the bytes of each over the fronts of four rows,
 // a_i · b_j, r(i, j) XOR a_i · b_j, a_j · b_i and r(j, i). Answers with how many bytes were drawn.
-pub fn pair_row(
+fn pair_row(
     logs: &Logs,
     antilogs: &Antilogs,
     i: usize,
@@ -84,19 +108,71 @@ pub fn pair_row(
     crossed: &mut [u8],
     back: &mut [u8],
 ) -> usize
-    requires { ⌜ (i + 1 + w ≤ 9) × (i + 1 + w ≤ length (now a)) × (i + 1 + w ≤ length (now b)) × (w ≤ length (now tape)) × (w ≤ length (now cross)) × (w ≤ length (now half)) × (w ≤ length (now crossed)) × (w ≤ length (now back)) × Tables (now logs) (now antilogs) ⌝ }
-    ensures { λ k. ⌜ (k ≡ w) × (now (cross .exit) ≡ front (tab (Steps.crosses (now (a .entry)) (now (b .entry)) i) w) (now (cross .entry))) × (now (half .exit) ≡ front (tab (Steps.halves (now (a .entry)) (now (b .entry)) (now (tape .entry)) i) w) (now (half .entry))) × (now (crossed .exit) ≡ front (tab (Steps.crosseds (now (a .entry)) (now (b .entry)) i) w) (now (crossed .entry))) × (now (back .exit) ≡ front (tab (Steps.backs (now (a .entry)) (now (b .entry)) (now (tape .entry)) i) w) (now (back .entry))) ⌝ }
+    requires { ⌜ (i + 1 + w ≤ 9) × (i + 1 + w ≤ length (now a)) × (i + 1 + w ≤ length (now b))
+        × (w ≤ length (now tape)) × (w ≤ length (now cross)) × (w ≤ length (now half))
+        × (w ≤ length (now crossed)) × (w ≤ length (now back)) × Tables (now logs) (now antilogs) ⌝ }
+    ensures { λ k. ⌜ (k ≡ w)
+        × (now (cross .exit) ≡ front (tab (Steps.crosses (now (a .entry)) (now (b .entry)) i) w) (now (cross .entry)))
+        × (now (half .exit) ≡ front (tab (Steps.halves (now (a .entry)) (now (b .entry)) (now (tape .entry)) i) w) (now (half .entry)))
+        × (now (crossed .exit) ≡ front (tab (Steps.crosseds (now (a .entry)) (now (b .entry)) i) w) (now (crossed .entry)))
+        × (now (back .exit) ≡ front (tab (Steps.backs (now (a .entry)) (now (b .entry)) (now (tape .entry)) i) w) (now (back .entry))) ⌝ }
 {
     let drawn = half_row(logs, antilogs, i, w, a, b, tape, cross, half);
     back_row(logs, antilogs, i, w, a, b, half, crossed, back);
     drawn
 }
 
-// One r taken into a running sum.
-pub fn sum_step(s: u8, r: u8) -> u8
-    ensures { λ q. ⌜ q ≡ bitXor s r ⌝ }
+// The pairs of row i with the w shares behind it go into the running sums: the draws, which stand at the front of the tape, into that of share i,
+// whose bytes on the way are left in own; each r(j, i) of the row back into that of share j.
+fn sum_row(i: usize, w: usize, tape: &[u8], back: &[u8], own: &mut [u8], sums: &mut [u8])
+    requires { ⌜ (0 < w) × (i + 1 + w ≤ 9) × (w ≤ length (now tape)) × (w ≤ length (now back))
+        × (w ≤ length (now own)) × (i + 1 + w ≤ length (now sums)) ⌝ }
+    ensures { λ _. ⌜ (now (own .exit) ≡ front (Steps.owns (now (tape .entry)) (now (sums .entry)) i w) (now (own .entry)))
+        × (now (sums .exit) ≡ Steps.row-taken i w (at (now (tape .entry))) (at (now (back .entry))) (now (sums .entry))) ⌝ }
 {
-    s ^ r
+    let start = sums[i];
+    let mut s = start;
+    for m in 0..w {
+        let j = i + 1 + m;
+        let r = tape[m];
+        s = s ^ r;
+        own[m] = s;
+        sums[j] = sums[j] ^ back[m];
+    }
+    sums[i] = own[w - 1];
+}
+
+// Row i of the pairs, and then its running sums. Answers with how many bytes were drawn.
+pub fn take_row(
+    logs: &Logs,
+    antilogs: &Antilogs,
+    i: usize,
+    w: usize,
+    a: &[u8],
+    b: &[u8],
+    tape: &[u8],
+    cross: &mut [u8],
+    half: &mut [u8],
+    crossed: &mut [u8],
+    back: &mut [u8],
+    own: &mut [u8],
+    sums: &mut [u8],
+) -> usize
+    requires { ⌜ (0 < w) × (i + 1 + w ≤ 9) × (i + 1 + w ≤ length (now a)) × (i + 1 + w ≤ length (now b))
+        × (w ≤ length (now tape)) × (w ≤ length (now cross)) × (w ≤ length (now half))
+        × (w ≤ length (now crossed)) × (w ≤ length (now back)) × (w ≤ length (now own))
+        × (i + 1 + w ≤ length (now sums)) × Tables (now logs) (now antilogs) ⌝ }
+    ensures { λ k. ⌜ (k ≡ w)
+        × (now (cross .exit) ≡ front (tab (Steps.crosses (now (a .entry)) (now (b .entry)) i) w) (now (cross .entry)))
+        × (now (half .exit) ≡ front (tab (Steps.halves (now (a .entry)) (now (b .entry)) (now (tape .entry)) i) w) (now (half .entry)))
+        × (now (crossed .exit) ≡ front (tab (Steps.crosseds (now (a .entry)) (now (b .entry)) i) w) (now (crossed .entry)))
+        × (now (back .exit) ≡ front (tab (Steps.backs (now (a .entry)) (now (b .entry)) (now (tape .entry)) i) w) (now (back .entry)))
+        × (now (own .exit) ≡ front (Steps.owns (now (tape .entry)) (now (sums .entry)) i w) (now (own .entry)))
+        × (now (sums .exit) ≡ Steps.pairs-taken (now (a .entry)) (now (b .entry)) (now (tape .entry)) i w (now (sums .entry))) ⌝ }
+{
+    let drawn = pair_row(logs, antilogs, i, w, a, b, tape, cross, half, crossed, back);
+    sum_row(i, w, tape, back, own, sums);
+    drawn
 }
 
 // The k-th j that is not i.

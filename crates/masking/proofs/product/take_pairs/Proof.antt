@@ -1,57 +1,64 @@
+use Rattle.masking.proofs.TermsLaws.{product-need-last, row-counts, row-fits}
 -- `masking::product::take_pairs` meets its contract. Assumes nothing.
-use mathlib.Core.Path.{_≡_, refl, ap, _∙_}
+use mathlib.Core.Path.{_≡_, refl, ap, sym, _∙_}
 use Prim.Native.Nat.{ℕ, _≤_, _+_, _-_}
 use native.Mathlib.Omega.{arith}
 use borrow.Author.Needs.{needs}
 use denote.Ref.{now}
-use lib.ListN.{length, take, drop}
-use Rattle.isw.specs.Place.{before-row}
-use Rattle.shares.proofs.WriteLaws.{part-rest, length-part-rest}
-use Rattle.masking.specs.Steps.{Sums}
-use Rattle.masking.proofs.TermsLaws.{before-row-next, before-row-le}
-use Rattle.masking.proofs.SumsLaws.{sums-last}
+use lib.ListN.{length, drop}
+use Rattle.isw.specs.Place.{before-row, product-need}
+use Rattle.shares.proofs.WriteLaws.{part-rest}
+use Rattle.masking.proofs.SumsLaws.{length-starts, Sums, sums-start, row-taken-sums, sums-all}
 use Rattle.masking.proofs.product.take_pairs.Statement.{statement}
 use Rattle.masking.proofs.product.take_pairs.Tie as tie
 
 abbrev Inv-loop : tie.InvT-loop
-Inv-loop logs antilogs d a b tape cross₀ half₀ crossed₀ back₀ own₀ sums₀ drawn₀ i₀ cross half crossed back own sums drawn i =
-    (i ≤ d) × (drawn ≡ before-row (d + 1) i) × (before-row (d + 1) i ≤ before-row (d + 1) (d + 1))
-    × (length cross ≡ length cross₀) × (length half ≡ length half₀) × (length crossed ≡ length crossed₀) × (length back ≡ length back₀) × (length own ≡ length own₀) × (length sums ≡ d + 1)
-    × (Sums (d + 1) a b tape 0 sums₀ → Sums (d + 1) a b tape i sums)
+Inv-loop logs antilogs d a b tape sums₀ drawn₀ i₀ sums drawn i =
+    (i ≤ d) × (drawn ≡ before-row (d + 1) i) × (before-row (d + 1) i ≤ product-need d) × (length sums ≡ d + 1) × Sums (d + 1) a b tape i sums
 
 abbrev μ-loop : tie.MeasureT-loop
-μ-loop logs antilogs d a b tape cross₀ half₀ crossed₀ back₀ own₀ sums₀ drawn₀ i₀ cross half crossed back own sums drawn i = d - i
+μ-loop logs antilogs d a b tape sums₀ drawn₀ i₀ sums drawn i = d - i
 
 loop-holds : tie.Need-loop-holds Inv-loop μ-loop
 unfolding before-row
-loop-holds c = (search needs, refl, search needs, refl, refl, refl, refl, refl, search needs, λ g. g)
+loop-holds c =
+    let s = c .before .before .before .before in
+    (search needs, refl, search needs, length-starts _ _ _ _ (s .pre .4), sums-start _ _ _ _ _ (s .pre .4))
 
-sub-take-row : tie.Need-sub-take-row Inv-loop μ-loop
-sub-take-row c = search needs
+sub-product-row : tie.Need-sub-product-row Inv-loop μ-loop
+sub-product-row c = search needs
 
-sub-take-row-2 : tie.Need-sub-take-row-2 Inv-loop μ-loop
-sub-take-row-2 c = search needs
+sub-product-row-2 : tie.Need-sub-product-row-2 Inv-loop μ-loop
+sub-product-row-2 c = search needs
 
-part-take-row-start : tie.Need-part-take-row-start Inv-loop μ-loop
-part-take-row-start c = search needs
+part-product-row-start : tie.Need-part-product-row-start Inv-loop μ-loop
+part-product-row-start c = search needs
 
-part-take-row-end : tie.Need-part-take-row-end Inv-loop μ-loop
-part-take-row-end c = search needs
+part-product-row-end : tie.Need-part-product-row-end Inv-loop μ-loop
+part-product-row-end c = search needs
 
-take-row-requires : tie.Need-take-row-requires Inv-loop μ-loop
-take-row-requires c κs =
-    let v = c .before .before .before .before .before .before .before .before .before .before .before .before .before .before .before .before .before .before .args in
-    let l = c .before .before .before .before .before .before .before .before .loop in
-    let x = before-row-next (v .d + 1) (l .i) in
-    let u = before-row-le (v .d + 1) (l .i) (omega arith) in
-    let t : v .d - l .i ≤ length (take (length (now (v .tape)) - l .drawn) (drop (l .drawn) (now (v .tape)))) = rw (length-part-rest (now (v .tape)) (l .drawn)) (omega arith) in
-    (omega arith, omega arith, omega arith, omega arith, t, omega arith, omega arith, omega arith, omega arith, omega arith, omega arith, search needs)
+product-row-requires : tie.Need-product-row-requires Inv-loop μ-loop
+product-row-requires c κs =
+    let c₃ = c .before .before .before in
+    let s = c₃ .before .before .before .before .before in
+    let l = c₃ .loop in
+    let v = s .args in
+    let p = s .pre in
+    let a = now (v .a) in
+    let b = now (v .b) in
+    let ts = now (v .tape) in
+    let h = c .before .before .loop-test .taken in
+    let r = row-fits (v .d) (l .i) (l .drawn) h (l .inv .1) a b ts (l .sums) (p .0) (p .1) (p .2) (p .3) (l .inv .3) in
+    (r .0, r .1, r .2, r .3, r .4, r .5, p .5)
 
 add-drawn : tie.Need-add-drawn Inv-loop μ-loop
 add-drawn c =
-    let d = c .before .before .before .before .before .before .before .before .before .before .before .before .before .before .before .before .before .before .before .before .before .before .before .before .before .before .before .before .before .before .before .args .d in
-    let i = c .before .before .before .before .before .before .before .before .before .before .before .before .before .before .before .before .before .before .before .before .before .loop .i in
-    omega (arith, c .before .before .before .before .before .before .before .before .before .before .before .before .before .before .before .before .before .before .before .before, c .before .before .before .before .before .before .before .before .before .before .before .before .take-row .ensures .0, before-row-next (d + 1) i, before-row-le (d + 1) i (omega (arith, c .before .before .before .before .before .before .before .before .before .before .before .before .before .before .before .before .before .before .before .before)))
+    let c₅ = c .before .before .before .before .before in
+    let c₆ = c₅ .before in
+    let c₁₁ = c₆ .before .before .before .before .before in
+    let l = c₆ .loop in
+    let r = row-counts (c₁₁ .args .d) (l .i) (l .drawn) (c₅ .loop-test .taken) (l .inv .1) in
+    omega (arith, c .before .before .product-row .ensures .0)
 
 add-i : tie.Need-add-i Inv-loop μ-loop
 add-i c = search needs
@@ -61,49 +68,29 @@ loop-less c = search needs
 
 loop-again : tie.Need-loop-again Inv-loop μ-loop
 loop-again c =
-    let v = c .before .before .before .before .before .before .before .before .before .before .before .before .before .before .before .before .before .before .before .before .before .before .before .before .before .before .before .before .before .before .before .args in
-    let l = c .before .before .before .before .before .before .before .before .before .before .before .before .before .before .before .before .before .before .before .before .before .loop in
-    let t = c .before .before .before .before .before .before .before .before .before .before .before .before .take-row .ensures in
-    let k = t .0 in
-    let x = before-row-next (v .d + 1) (l .i) in
-    let u = before-row-le (v .d + 1) (l .i) (omega arith) in (
-      omega arith,
-      omega arith,
-      omega arith,
-      c .before .before .before .before .before .before .before .before .before .before .before .cross .given ∙ l .inv .3,
-      c .before .before .before .before .before .before .before .before .before .half .given ∙ l .inv .4,
-      c .before .before .before .before .before .before .before .crossed .given ∙ l .inv .5,
-      c .before .before .before .before .before .back .given ∙ l .inv .6,
-      c .before .before .before .own .given ∙ l .inv .7,
-      c .before .sums .given ∙ l .inv .8,
-      λ g. t .6 (v .d + 1) (now (v .tape)) (omega arith) (part-rest (now (v .tape)) (l .drawn) ∙ ap (λ (k : ℕ). drop k (now (v .tape))) (l .inv .1)) (l .inv .9 g),
+    let l = c .before .before .before .before .before .before .loop in
+    let v = c .before .before .before .before .before .before .before .before .before .before .before .args in
+    let t = c .before .before .product-row .ensures in
+    let ts = now (v .tape) in
+    let r = row-counts (v .d) (l .i) (l .drawn) (c .before .before .before .before .before .loop-test .taken) (l .inv .1) in
+    let f = part-rest ts (l .drawn) ∙ ap (λ (k : ℕ). drop k ts) (l .inv .1) in (
+      r .0,
+      ap (_+_ (l .drawn)) (t .0) ∙ r .1,
+      r .2,
+      c .before .sums .given ∙ l .inv .3,
+      rw (t .1) (row-taken-sums (v .d + 1) (now (v .a)) (now (v .b)) ts (l .i) (v .d - l .i) _ (l .sums) (r .3) f (omega arith) (l .inv .4)),
     )
 
 same-length : tie.Need-same-length Inv-loop μ-loop
-same-length c = search needs
-
-same-length-2 : tie.Need-same-length-2 Inv-loop μ-loop
-same-length-2 c = search needs
-
-same-length-3 : tie.Need-same-length-3 Inv-loop μ-loop
-same-length-3 c = search needs
-
-same-length-4 : tie.Need-same-length-4 Inv-loop μ-loop
-same-length-4 c = search needs
-
-same-length-5 : tie.Need-same-length-5 Inv-loop μ-loop
-same-length-5 c = search needs
-
-same-length-6 : tie.Need-same-length-6 Inv-loop μ-loop
-same-length-6 c = search needs
+same-length c = c .before .loop .inv .3 ∙ sym (length-starts _ _ _ _ (c .before .before .before .before .before .before .pre .4))
 
 returns : tie.Need-returns Inv-loop μ-loop
 returns c =
     let l = c .before .loop in
-    let d = c .before .before .before .before .before .before .before .before .before .before .before .args .d in
+    let d = c .before .before .before .before .before .before .args .d in
     let e : l .i ≡ d = omega arith in
     let z : l .drawn ≡ before-row (d + 1) d = rw e at (l .inv .1) in
-    (omega (arith, z, before-row-next (d + 1) d), λ g. sums-last _ _ _ _ _ (rw e at (l .inv .9 g)))
+    (z ∙ sym (product-need-last d), sums-all d _ _ _ _ (l .inv .3) (rw e at (l .inv .4)))
 
 pub take-pairs-spec : {M : Type 1} → statement M
 take-pairs-spec =
@@ -112,19 +99,14 @@ take-pairs-spec =
     Inv-loop
     μ-loop
     loop-holds
-    sub-take-row
-    sub-take-row-2
-    part-take-row-start
-    part-take-row-end
-    take-row-requires
+    sub-product-row
+    sub-product-row-2
+    part-product-row-start
+    part-product-row-end
+    product-row-requires
     add-drawn
     add-i
     loop-less
     loop-again
     same-length
-    same-length-2
-    same-length-3
-    same-length-4
-    same-length-5
-    same-length-6
     returns)

@@ -1,10 +1,8 @@
 -- `masking::sheet::sheet_with` meets its contract. Assumes nothing.
-use mathlib.Core.Path.{sym, _∙_}
 use native.Mathlib.Omega.{arith}
 use borrow.Author.Needs.{needs}
 use denote.Ref.{now}
-use Rattle.masking.proofs.TermsLaws.{product-need-rows}
-use Rattle.masking.proofs.SheetParts.{few-drawn, place-count-rows, sheet-written}
+use Rattle.masking.proofs.SheetParts.{few-drawn, place-count-parts, sheet-written}
 use Rattle.masking.proofs.sheet.sheet_with.Statement.{statement}
 use Rattle.masking.proofs.sheet.sheet_with.Tie as tie
 
@@ -12,65 +10,105 @@ add-n : tie.Need-add-n
 add-n c = search needs
 
 put-requires : tie.Need-put-requires
-put-requires c κs = omega (arith, c .before .before .before .before .before .before .before .before .before .before .pre, place-count-rows (c .before .before .before .before .before .before .before .before .before .before .args .d))
+put-requires c κs =
+    let c₇ = c .before .before .before .before .before .before .before in
+    omega (arith, c₇ .pre, place-count-parts (c₇ .args .d))
 
 sub-put : tie.Need-sub-put
-sub-put c = omega (arith, c .before .before .before .before .before .before .before .before .before .before .before .before .before .pre, c .before .out .given, place-count-rows (c .before .before .before .before .before .before .before .before .before .before .before .before .before .args .d))
+sub-put c =
+    let c₁₀ = c .before .before .before .before .before .before .before .before .before .before in
+    omega (arith, c₁₀ .pre, c .before .out .given, place-count-parts (c₁₀ .args .d))
 
 part-put-start : tie.Need-part-put-start
-part-put-start c = omega (arith, c .before .before .before .before .before .before .before .before .before .before .before .before .before .pre, c .before .out .given, place-count-rows (c .before .before .before .before .before .before .before .before .before .before .before .before .before .args .d))
+part-put-start c =
+    let c₁₀ = c .before .before .before .before .before .before .before .before .before .before in
+    omega (arith, c₁₀ .pre, c .before .out .given, place-count-parts (c₁₀ .args .d))
 
 part-put-end : tie.Need-part-put-end
 part-put-end c = search needs
 
 put-requires-2 : tie.Need-put-requires-2
-put-requires-2 c κs = omega (arith, c .before .before .before .before .before .before .before .before .before .before .before .before .before .before .pre, c .before .before .out .given, place-count-rows (c .before .before .before .before .before .before .before .before .before .before .before .before .before .before .args .d))
+put-requires-2 c κs =
+    let c₁₁ = c .before .before .before .before .before .before .before .before .before .before .before in
+    omega (arith, c₁₁ .pre, c .before .before .out .given, place-count-parts (c₁₁ .args .d))
 
 mul-pairs : tie.Need-mul-pairs
-mul-pairs c = omega (arith, c .before .before .before .before .before .before .before .before .before .before .before .before .before .before .before .before .before .pre)
+mul-pairs c = search needs
 
 sub-sheet-rows : tie.Need-sub-sheet-rows
-sub-sheet-rows c = omega (arith, c .before .before .before .before .before .before .before .before .before .before .before .before .before .before .before .before .before .before .before .before .before .before .pre, c .before .before .before .before .before .before .before .before .before .before .out .given, c .before .before .before .before .before .before .out2 .given, place-count-rows (c .before .before .before .before .before .before .before .before .before .before .before .before .before .before .before .before .before .before .before .before .before .before .args .d))
+sub-sheet-rows c =
+    let c₃ = c .before .before .before in
+    let c₇ = c₃ .before .before .before .before in
+    let c₁₆ = c₇ .before .before .before .before .before .before .before .before .before in
+    omega (arith, c₁₆ .pre, c₇ .out .given, c₃ .out2 .given, place-count-parts (c₁₆ .args .d))
 
 part-sheet-rows-start : tie.Need-part-sheet-rows-start
-part-sheet-rows-start c = omega (arith, c .before .before .before .before .before .before .before .before .before .before .before .before .before .before .before .before .before .before .before .before .before .before .pre, c .before .before .before .before .before .before .before .before .before .before .out .given, c .before .before .before .before .before .before .out2 .given, place-count-rows (c .before .before .before .before .before .before .before .before .before .before .before .before .before .before .before .before .before .before .before .before .before .before .args .d))
+part-sheet-rows-start c =
+    let c₃ = c .before .before .before in
+    let c₇ = c₃ .before .before .before .before in
+    let c₁₆ = c₇ .before .before .before .before .before .before .before .before .before in
+    omega (arith, c₁₆ .pre, c₇ .out .given, c₃ .out2 .given, place-count-parts (c₁₆ .args .d))
 
 part-sheet-rows-end : tie.Need-part-sheet-rows-end
 part-sheet-rows-end c = search needs
 
 sheet-rows-requires : tie.Need-sheet-rows-requires
 sheet-rows-requires c κs =
-    let s = c .before .before .before .before .before .before .before .before .before .before .before .before .before .before .before .before .before .before .before .before .before .before .before in
+    let c₄ = c .before .before .before .before in
+    let c₈ = c₄ .before .before .before .before in
+    let c₁₇ = c₈ .before .before .before .before .before .before .before .before .before in
+    let p = c₁₇ .pre in
+    (p .0, p .1, p .2, p .3, p .4, p .5, omega (arith, p, c₈ .out .given, c₄ .out2 .given, place-count-parts (c₁₇ .args .d)), p .7)
+
+mul-behind : tie.Need-mul-behind
+mul-behind c =
+    let c₆ = c .before .before .before .before .before .before in
+    let c₁₆ = c₆ .before .before .before .before .before .before .before .before .before .before in
+    let s = c₁₆ .before .before .before .before .before .before .before .before in
+    omega (arith, few-drawn (s .args .d) (s .pre .0), c₆ .sheet-rows .ensures .0, s .pre .0)
+
+add-behind : tie.Need-add-behind
+add-behind c =
+    let c₆ = c .before .before .before .before .before .before in
+    let c₁₆ = c₆ .before .before .before .before .before .before .before .before .before .before in
+    let s = c₁₆ .before .before .before .before .before .before .before .before in
+    omega (arith, few-drawn (s .args .d) (s .pre .0), c₆ .sheet-rows .ensures .0, s .pre .0)
+
+sub-put-table : tie.Need-sub-put-table
+sub-put-table c =
+    let c₇ = c .before .before .before .before .before .before .before in
+    let c₁₂ = c₇ .before .before .before .before .before in
+    let c₁₆ = c₁₂ .before .before .before .before in
+    let s = c₁₆ .before .before .before .before .before .before .before .before .before in
+    let e = place-count-parts (s .args .d) in
+    omega (arith, s .pre, c₁₆ .out .given, c₁₂ .out2 .given, c .before .before .out3 .given, c₇ .sheet-rows .ensures .0)
+
+part-put-table-start : tie.Need-part-put-table-start
+part-put-table-start c =
+    let c₇ = c .before .before .before .before .before .before .before in
+    let c₁₂ = c₇ .before .before .before .before .before in
+    let c₁₆ = c₁₂ .before .before .before .before in
+    let s = c₁₆ .before .before .before .before .before .before .before .before .before in
+    let e = place-count-parts (s .args .d) in
+    omega (arith, s .pre, c₁₆ .out .given, c₁₂ .out2 .given, c .before .before .out3 .given, c₇ .sheet-rows .ensures .0)
+
+part-put-table-end : tie.Need-part-put-table-end
+part-put-table-end c = search needs
+
+put-table-requires : tie.Need-put-table-requires
+put-table-requires c κs =
+    let c₃ = c .before .before .before in
+    let c₅ = c₃ .before .before in
+    let c₈ = c₅ .before .before .before in
+    let c₁₃ = c₈ .before .before .before .before .before in
+    let c₁₇ = c₁₃ .before .before .before .before in
+    let s = c₁₇ .before .before .before .before .before .before .before .before .before in
     let p = s .pre in
-    let e = place-count-rows (s .args .d) in
-    let f = product-need-rows (s .args .d) in
-    (omega (arith, p), omega (arith, p), omega (arith, p), omega (arith, p, f), omega (arith, p), omega (arith, p), omega (arith, p), omega (arith, p), p .8, omega (arith, p, c .before .before .before .before .before .before .before .before .before .before .before .out .given, c .before .before .before .before .before .before .before .out2 .given, e), p .10)
-
-mul-sums : tie.Need-mul-sums
-mul-sums c =
-    let s = c .before .before .before .before .before .before .before .before .before .before .before .before .before .before .before .before .before .before .before .before .before .before .before .before .before .before .before .before .before .before .before .before .before .before .before .before in
-    omega (arith, few-drawn (s .args .d) (s .pre .0), product-need-rows (s .args .d), c .before .before .before .before .before .before .before .before .before .before .before .before .sheet-rows .ensures .0, s .pre .0)
-
-add-sums : tie.Need-add-sums
-add-sums c =
-    let s = c .before .before .before .before .before .before .before .before .before .before .before .before .before .before .before .before .before .before .before .before .before .before .before .before .before .before .before .before .before .before .before .before .before .before .before .before in
-    omega (arith, few-drawn (s .args .d) (s .pre .0), product-need-rows (s .args .d), c .before .before .before .before .before .before .before .before .before .before .before .before .sheet-rows .ensures .0, s .pre .0)
-
-sub-sheet-runs : tie.Need-sub-sheet-runs
-sub-sheet-runs c = omega (arith, c .before .before .before .before .before .before .before .before .before .before .before .before .before .before .before .before .before .before .before .before .before .before .before .before .before .before .before .before .before .before .before .before .before .before .before .before .before .pre, c .before .before .before .before .before .before .before .before .before .before .before .before .before .before .before .before .before .before .before .before .before .before .before .before .before .out .given, c .before .before .before .before .before .before .before .before .before .before .before .before .before .before .before .before .before .before .before .before .before .out2 .given, c .before .before .out3 .given, c .before .before .before .before .before .before .before .before .before .before .before .before .before .sheet-rows .ensures .0, place-count-rows (c .before .before .before .before .before .before .before .before .before .before .before .before .before .before .before .before .before .before .before .before .before .before .before .before .before .before .before .before .before .before .before .before .before .before .before .before .before .args .d))
-
-part-sheet-runs-start : tie.Need-part-sheet-runs-start
-part-sheet-runs-start c = omega (arith, c .before .before .before .before .before .before .before .before .before .before .before .before .before .before .before .before .before .before .before .before .before .before .before .before .before .before .before .before .before .before .before .before .before .before .before .before .before .pre, c .before .before .before .before .before .before .before .before .before .before .before .before .before .before .before .before .before .before .before .before .before .before .before .before .before .out .given, c .before .before .before .before .before .before .before .before .before .before .before .before .before .before .before .before .before .before .before .before .before .out2 .given, c .before .before .out3 .given, c .before .before .before .before .before .before .before .before .before .before .before .before .before .sheet-rows .ensures .0, place-count-rows (c .before .before .before .before .before .before .before .before .before .before .before .before .before .before .before .before .before .before .before .before .before .before .before .before .before .before .before .before .before .before .before .before .before .before .before .before .before .args .d))
-
-part-sheet-runs-end : tie.Need-part-sheet-runs-end
-part-sheet-runs-end c = search needs
-
-sheet-runs-requires : tie.Need-sheet-runs-requires
-sheet-runs-requires c κs =
-    let s = c .before .before .before .before .before .before .before .before .before .before .before .before .before .before .before .before .before .before .before .before .before .before .before .before .before .before .before .before .before .before .before .before .before .before .before .before .before .before in
-    let p = s .pre in
-    let e = place-count-rows (s .args .d) in
-    (omega (arith, p), omega (arith, p), omega (arith, p), omega (arith, p, c .before .before .before .before .before .table .given), omega (arith, p, c .before .before .before .before .before .before .before .before .before .before .before .before .before .before .before .before .before .before .before .before .before .before .before .before .before .before .out .given, c .before .before .before .before .before .before .before .before .before .before .before .before .before .before .before .before .before .before .before .before .before .before .out2 .given, c .before .before .before .out3 .given, c .before .before .before .before .before .before .before .before .before .before .before .before .before .before .sheet-rows .ensures .0, e), p .10)
+    let e = place-count-parts (s .args .d) in (
+      omega (arith, p),
+      omega (arith, p, c₅ .table .given),
+      omega (arith, p, c₁₇ .out .given, c₁₃ .out2 .given, c₃ .out3 .given, c₈ .sheet-rows .ensures .0, e),
+    )
 
 same-length : tie.Need-same-length
 same-length c = search needs
@@ -81,23 +119,17 @@ same-length-2 c = search needs
 same-length-3 : tie.Need-same-length-3
 same-length-3 c = search needs
 
-same-length-4 : tie.Need-same-length-4
-same-length-4 c = search needs
-
-same-length-5 : tie.Need-same-length-5
-same-length-5 c = search needs
-
-same-length-6 : tie.Need-same-length-6
-same-length-6 c = c .before .out4 .given .1 ∙ c .before .before .before .before .before .before .out3 .given .1 ∙ c .before .before .before .before .before .before .before .before .before .before .before .before .before .before .before .before .before .before .before .before .before .before .before .before .before .out2 .given .1 ∙ c .before .before .before .before .before .before .before .before .before .before .before .before .before .before .before .before .before .before .before .before .before .before .before .before .before .before .before .before .before .out .given
-
 returns : tie.Need-returns
 returns c =
-    let s = c .before .before .before .before .before .before .before .before .before .before .before .before .before .before .before .before .before .before .before .before .before .before .before .before .before .before .before .before .before .before .before .before .before .before .before .before .before .before .before .before .before in
+    let c₁₁ = c .before .before .before .before .before .before .before .before .before .before .before in
+    let c₁₇ = c₁₁ .before .before .before .before .before .before in
+    let c₂₁ = c₁₇ .before .before .before .before in
+    let s = c₂₁ .before .before .before .before .before .before .before .before in
     let v = s .args in
-    let f = c .before .before .before .before .before .before .before .before .before .before .before .before .before .before .before .before .before .sheet-rows in (
-      f .ensures .0 ∙ sym (product-need-rows (v .d)),
-      sheet-written (v .d) _ _ (now (v .tape)) (s .pre .1) (s .pre .2) (f .result) _ _ _ _ _ (s .pre .9) (f .ensures .0)
-          (c .before .before .before .before .before .before .before .before .before .before .before .before .before .before .before .before .before .before .before .before .before .before .before .before .before .before .before .before .before .before .put .ensures) (c .before .before .before .before .before .before .before .before .before .before .before .before .before .before .before .before .before .before .before .before .before .before .before .before .before .before .put2 .ensures) (f .ensures .1) (c .before .before .sheet-runs .ensures (now (v .tape)) (f .ensures .2)),
+    let f = c₁₁ .sheet-rows in (
+      f .ensures .0,
+      sheet-written (v .d) _ _ (now (v .tape)) (s .pre .1) (s .pre .2) (f .result) _ _ _ _ _ (s .pre .6) (f .ensures .0)
+          (c₂₁ .put .ensures) (c₁₇ .put2 .ensures) (f .ensures .1) (rw (f .ensures .2) at (c .before .before .put-table .ensures)),
     )
 
 pub sheet-with-spec : {M : Type 1} → statement M
@@ -115,16 +147,13 @@ sheet-with-spec =
     part-sheet-rows-start
     part-sheet-rows-end
     sheet-rows-requires
-    mul-sums
-    add-sums
-    sub-sheet-runs
-    part-sheet-runs-start
-    part-sheet-runs-end
-    sheet-runs-requires
+    mul-behind
+    add-behind
+    sub-put-table
+    part-put-table-start
+    part-put-table-end
+    put-table-requires
     same-length
     same-length-2
     same-length-3
-    same-length-4
-    same-length-5
-    same-length-6
     returns)

@@ -14,7 +14,8 @@ use Rattle.masking.proofs.steps.back_row.Tie as tie
 
 abbrev Inv-loop : tie.InvT-loop
 Inv-loop logs antilogs i w a b half crossed₀ back₀ bi m₀ crossed back m =
-    (m ≤ w) × (crossed ≡ over (crosseds a b i) m crossed₀) × (back ≡ over (λ k. bitXor (at half k) (crosseds a b i k)) m back₀) × (length crossed ≡ length crossed₀) × (length back ≡ length back₀)
+    (m ≤ w) × (crossed ≡ over (crosseds a b i) m crossed₀) × (back ≡ over (λ k. bitXor (at half k) (crosseds a b i k)) m back₀)
+    × (length crossed ≡ length crossed₀) × (length back ≡ length back₀)
 
 abbrev μ-loop : tie.MeasureT-loop
 μ-loop logs antilogs i w a b half crossed₀ back₀ bi m₀ crossed back m = w - m

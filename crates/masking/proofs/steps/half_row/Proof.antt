@@ -14,7 +14,8 @@ use Rattle.masking.proofs.steps.half_row.Tie as tie
 
 abbrev Inv-loop : tie.InvT-loop
 Inv-loop logs antilogs i w a b tape cross₀ half₀ ai drawn₀ m₀ cross half drawn m =
-    (m ≤ w) × (drawn ≡ m) × (cross ≡ over (crosses a b i) m cross₀) × (half ≡ over (halves a b tape i) m half₀) × (length cross ≡ length cross₀) × (length half ≡ length half₀)
+    (m ≤ w) × (drawn ≡ m) × (cross ≡ over (crosses a b i) m cross₀) × (half ≡ over (halves a b tape i) m half₀)
+    × (length cross ≡ length cross₀) × (length half ≡ length half₀)
 
 abbrev μ-loop : tie.MeasureT-loop
 μ-loop logs antilogs i w a b tape cross₀ half₀ ai drawn₀ m₀ cross half drawn m = w - m

@@ -1,9 +1,9 @@
--- `masking::product::take_row` meets its contract. Assumes nothing.
+-- `masking::steps::take_row` meets its contract. Assumes nothing.
 use borrow.Author.Needs.{needs}
 use denote.Ref.{now}
-use Rattle.shares.proofs.WriteLaws.{at-front}
-use Rattle.masking.proofs.product.take_row.Statement.{statement}
-use Rattle.masking.proofs.product.take_row.Tie as tie
+use Rattle.masking.proofs.SumsLaws.{row-taken-backs}
+use Rattle.masking.proofs.steps.take_row.Statement.{statement}
+use Rattle.masking.proofs.steps.take_row.Tie as tie
 
 pair-row-requires : tie.Need-pair-row-requires
 pair-row-requires c κs = search needs
@@ -31,10 +31,16 @@ same-length-6 c = search needs
 
 returns : tie.Need-returns
 returns c =
-    let v = c .before .before .before .before .before .before .before .before .before .before .before .before .before .before .before .before .before .before .before .before .before .before .before .before .before .before .before .before .before .before .args in
-    let p = c .before .before .before .before .before .before .before .before .before .before .before .before .before .before .before .before .pair-row .ensures in
-    let s = c .before .before .before .before .sum-row .ensures in
-    (p .0, p .1, p .2, p .3, p .4, s .0, λ n ts e f g. s .1 n (now (v .a)) (now (v .b)) ts e f (λ m l. at-front _ _ m _ _ (p .4) l) g)
+    let c₄ = c .before .before .before .before in
+    let c₁₆ = c₄ .before .before .before .before .before .before .before .before .before .before .before .before in
+    let c₃₀ = c₁₆ .before .before .before .before .before .before .before .before .before .before .before .before .before .before in
+    let v = c₃₀ .args in
+    let p = c₁₆ .pair-row .ensures in
+    let s = c₄ .sum-row .ensures in
+    let a = now (v .a) in
+    let b = now (v .b) in
+    let ts = now (v .tape) in
+    (p .0, p .1, p .2, p .3, p .4, s .0, row-taken-backs a b ts (v .i) (v .w) (now (v .sums)) _ _ (now (v .back)) (p .4) (s .1))
 
 pub take-row-spec : {M : Type 1} → statement M
 take-row-spec =

@@ -1,4 +1,4 @@
--- `masking::product::start_sums` meets its contract. Assumes nothing.
+-- `masking::steps::start_sums` meets its contract. Assumes nothing.
 use mathlib.Core.Path.{_≡_, refl}
 use Prim.Native.Nat.{_≤_, _-_}
 use native.Mathlib.Omega.{arith}
@@ -7,8 +7,8 @@ use lib.ListN.{length, length-set}
 use Rattle.xor.specs.Lists.{at}
 use Rattle.gf256.specs.Field.{times}
 use Rattle.shares.proofs.WriteLaws.{over, over-none, over-more, over-all}
-use Rattle.masking.proofs.product.start_sums.Statement.{statement}
-use Rattle.masking.proofs.product.start_sums.Tie as tie
+use Rattle.masking.proofs.steps.start_sums.Statement.{statement}
+use Rattle.masking.proofs.steps.start_sums.Tie as tie
 
 abbrev Inv-loop : tie.InvT-loop
 Inv-loop logs antilogs n a b output₀ i₀ output i =
