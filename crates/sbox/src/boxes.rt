@@ -15,7 +15,7 @@ use shares::Answer;
 use shares::Refusal;
 
 // The affine map of each share. The shares are taken by a list of their numbers: a compiler that does not know them for neighbours has no use for
-// a register with two of them in it, whose shifts would bring bits of the one into the other's byte.
+// a register with two of them in it, whose shifts would bring bits of the one into the other's byte (the rule at the head of masking's steps.rt).
 fn affine_all(which: Direction, x: &mut [u8])
     requires { ⌜ length (now x) ≤ 9 ⌝ }
     ensures { λ _. ⌜ now (x .exit) ≡ map (affine-of which) (now (x .entry)) ⌝ }

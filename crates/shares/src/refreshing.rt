@@ -18,10 +18,13 @@ pub fn refresh_need(d: usize) -> usize
 }
 
 // For i = 1 to d: draw t, XOR it into share 0, then into share i. What share 0 is on the way is left in first, and read back from there at the end:
-// so a compiler has no draws to sum up apart. Answers with how many bytes were drawn.
+// so a compiler has no draws to sum up apart (the rule at the head of masking's steps.rt). Answers with how many bytes were drawn.
 fn refresh_with(d: usize, tape: &[u8], first: &mut [u8], x: &mut [u8]) -> usize
     requires { ⌜ (d < length (now x)) × (d < length (now first)) × (Refresh.refresh-need d ≤ length (now tape)) ⌝ }
-    ensures { λ r. ⌜ (r ≡ Refresh.refresh-need d) × (now (first .exit) ≡ front (tab (λ k. at (Refresh.refreshed k (now (x .entry)) (now (tape .entry))) 0) (d + 1)) (now (first .entry))) × (now (x .exit) ≡ Refresh.refreshed d (now (x .entry)) (now (tape .entry))) ⌝ }
+    ensures { λ r. ⌜ (r ≡ Refresh.refresh-need d)
+        × (now (first .exit)
+        ≡ front (tab (λ k. at (Refresh.refreshed k (now (x .entry)) (now (tape .entry))) 0) (d + 1)) (now (first .entry)))
+        × (now (x .exit) ≡ Refresh.refreshed d (now (x .entry)) (now (tape .entry))) ⌝ }
 {
     let mut drawn: usize = 0;
     let mut s = x[0];
