@@ -22,14 +22,14 @@ struct call {
 	void (*note)(void);
 };
 
-/* What the gate looks at. */
-extern const struct call calls[];
-extern const size_t call_count;
+/* What the gate looks at: byte_calls.c and block_calls.c. */
+extern const struct call byte_calls[], block_calls[];
+extern const size_t byte_call_count, block_call_count;
 
 /* A whole encryption, which takes minutes. */
 extern const struct call whole_call;
 
-/* Routines that hold what they must not: brackets moved, and two shares in one byte. */
+/* Routines that hold what they must not: brackets moved, and two shares in one byte (planted.c). */
 extern const struct call planted[];
 extern const size_t planted_count;
 

@@ -116,28 +116,43 @@ static bool sees(void)
 	return true;
 }
 
-/* Whether the arguments mean call number k at this order; `place` counts all that the gate looks at. */
-static bool meant(int argc, char **argv, size_t k, size_t order, size_t place)
+/* What the arguments mean: a part of all calls, or one of them, at one order or at all. */
+static struct { size_t part, parts, order; const char *name; } wanted = { 1, 1, 0, NULL };
+
+/* Looks at the listed calls, so far as they are wanted. Answers with how many bytes are held that must not be. */
+static size_t examine_all(const struct call *list, size_t len)
 {
-	if (argc == 4 && strcmp(argv[1], "part") == 0)
-		return place % strtoul(argv[3], NULL, 10) == strtoul(argv[2], NULL, 10) - 1;
-	return (argc < 2 || strcmp(argv[1], calls[k].name) == 0) && (argc < 3 || strtoul(argv[2], NULL, 10) == order);
+	static size_t place; /* over all lists */
+	size_t bad = 0;
+
+	for (size_t k = 0; k < len; k++)
+		for (size_t order = 1; order <= list[k].last_order; order++) {
+			bool mine = place++ % wanted.parts == wanted.part - 1;
+			bool named = wanted.name == NULL || strcmp(wanted.name, list[k].name) == 0;
+
+			if (mine && named && (wanted.order == 0 || wanted.order == order))
+				bad += examine(&list[k], order);
+		}
+	return bad;
 }
 
 int main(int argc, char **argv)
 {
 	time_t start = time(NULL);
-	size_t bad = 0, place = 0;
 
+	if (argc == 4 && strcmp(argv[1], "part") == 0) {
+		wanted.part = strtoul(argv[2], NULL, 10);
+		wanted.parts = strtoul(argv[3], NULL, 10);
+	} else if (argc > 1) {
+		wanted.name = argv[1];
+		wanted.order = argc > 2 ? strtoul(argv[2], NULL, 10) : 0;
+	}
 	setvbuf(stdout, NULL, _IOLBF, 0);
-	if (!sees())
+	if (wanted.parts == 0 || !sees())
 		return 1;
-	for (size_t order = 1; order <= 8; order++)
-		for (size_t k = 0; k < call_count; k++)
-			if (order <= calls[k].last_order && meant(argc, argv, k, order, place++))
-				bad += examine(&calls[k], order);
-	if (argc == 2 && strcmp(argv[1], whole_call.name) == 0)
-		bad += examine(&whole_call, 1);
+	size_t bad = examine_all(byte_calls, byte_call_count) + examine_all(block_calls, block_call_count);
+	if (wanted.name != NULL)
+		bad += examine_all(&whole_call, 1);
 	if (sum.calls == 0) {
 		fputs("machine: no such call\n", stderr);
 		return 2;

@@ -1,0 +1,143 @@
+/* Windows of the calls on a block with a key of 16 bytes: one inverse S-box, the linear steps and key words between S-boxes. */
+#include "calls.h"
+
+#include "inputs.h"
+#include "stepping.h"
+
+#define FEW_RUNS  60  /* of bytes of small fields, which repeat often */
+#define MANY_RUNS 200 /* of any bytes */
+
+/* From the last draw of S-box `last` to the first draw of S-box `next`. */
+static void set_window(size_t last, size_t next)
+{
+	in.left_len = in.out_len = DOKKUMEL_SHARED(in.order, BLOCK);
+	in.start = (last + 1) * in.box - 1;
+	in.end = next == AT_RETURN ? AT_RETURN : next * in.box;
+	in.from = last * in.box;
+	in.to = next == AT_RETURN ? in.tape_len : in.end;
+}
+
+static void set_prepared(void)
+{
+	in.key_len = DOKKUMEL_PREPARED(in.order, KEY);
+	in.tape_len = DOKKUMEL_ENCRYPT_PREPARED_TAPE(in.order, KEY);
+}
+
+static void set_from_key(void)
+{
+	in.key_len = DOKKUMEL_SHARED(in.order, KEY);
+	in.tape_len = DOKKUMEL_ENCRYPT_TAPE(in.order, KEY);
+}
+
+#define KEY_BOXES DOKKUMEL_KEY_SBOXES(KEY)
+#define ALL_BOXES DOKKUMEL_SBOXES(KEY)
+
+/* The first round key of an encryption: from the call to its first draw. */
+static void set_first_key(void)
+{
+	set_prepared();
+	set_window(0, 0);
+	in.start = AT_CALL;
+	in.from = 0;
+}
+
+/* The linear steps between two rounds, and those of the last round. */
+static void set_round(void) { set_prepared(); set_window(15, 16); }
+static void set_last_round(void) { set_prepared(); set_window(DOKKUMEL_ROUND_SBOXES(KEY) - 1, AT_RETURN); }
+static void set_inverse_round(void) { set_from_key(); set_window(KEY_BOXES + 15, KEY_BOXES + 16); }
+static void set_last_inverse_round(void) { set_from_key(); set_window(ALL_BOXES - 1, AT_RETURN); }
+
+/* The first inverse S-box of a decryption, with the steps before it: the last key words, the first round key, InvShiftRows. */
+static void set_inverse_sbox(void) { set_from_key(); set_window(KEY_BOXES - 1, KEY_BOXES + 1); }
+
+/* The key words that the first S-boxes of a preparation serve. */
+static void set_key_words(void)
+{
+	in.tape_len = DOKKUMEL_PREPARE_TAPE(in.order, KEY);
+	set_window(3, 4);
+	in.key_len = DOKKUMEL_SHARED(in.order, KEY);
+	in.out_len = DOKKUMEL_PREPARED(in.order, KEY);
+}
+
+static void set_whole(void)
+{
+	set_from_key();
+	set_window(0, AT_RETURN);
+	in.start = AT_CALL;
+}
+
+/*
+ * Byte 0 of the block, and the draws of its S-box, such that the inverse
+ * affine map leaves shares of the run's field. All else is the same in every
+ * run: whatever depends on it is too.
+ */
+static void draw_inverse_sbox(size_t run)
+{
+	static uint8_t prepared[sizeof in.key];
+	size_t each = DOKKUMEL_PREPARED(in.order, KEY) / in.n;
+
+	if (run == 0) {
+		struct tape t = { in.tape, 0 };
+
+		draw_any(run);
+		step_prepare(in.order, (KEY / 4), in.key, &t, prepared);
+	}
+	field_bytes(in.tape + KEY_BOXES * in.box, in.box, run);
+	for (size_t i = 0; i < in.n; i++) {
+		uint8_t x = field_byte(run) ^ (in.order % 2 == 1 && i == 0 ? 0x05 : 0);
+
+		in.left[i * BLOCK] = step_affine(x) ^ prepared[i * each + each - BLOCK];
+	}
+}
+
+static void make_encrypt_prepared(void)
+{
+	in.status = dokkumel_encrypt_prepared(in.order, in.key, in.key_len, in.left, in.left_len, in.tape, in.tape_len,
+		in.out, in.out_len, &in.taken);
+}
+
+static void make_decrypt(void)
+{
+	in.status = dokkumel_decrypt(in.order, in.key, in.key_len, in.left, in.left_len, in.tape, in.tape_len, in.out, in.out_len, &in.taken);
+}
+
+static void make_encrypt(void)
+{
+	in.status = dokkumel_encrypt(in.order, in.key, in.key_len, in.left, in.left_len, in.tape, in.tape_len, in.out, in.out_len, &in.taken);
+}
+
+static void make_prepare(void)
+{
+	in.status = dokkumel_prepare(in.order, in.key, in.key_len, in.tape, in.tape_len, in.out, in.out_len, &in.taken);
+}
+
+static void note_block(step_block *step)
+{
+	struct tape t = { in.tape, 0 };
+
+	step(in.order, (KEY / 4), in.key, in.left, &t, in.second);
+}
+
+static void note_encrypt_prepared(void) { note_block(step_encrypt_prepared); }
+static void note_decrypt(void) { note_block(step_decrypt); }
+static void note_encrypt(void) { note_block(step_encrypt); }
+
+static void note_prepare(void)
+{
+	struct tape t = { in.tape, 0 };
+
+	step_prepare(in.order, (KEY / 4), in.key, &t, in.second);
+}
+
+const struct call block_calls[] = {
+	{ "inverse-sbox", 8, FEW_RUNS, set_inverse_sbox, draw_inverse_sbox, make_decrypt, note_decrypt },
+	{ "key-words", 3, MANY_RUNS, set_key_words, draw_any, make_prepare, note_prepare },
+	{ "first-key", 3, MANY_RUNS, set_first_key, draw_any, make_encrypt_prepared, note_encrypt_prepared },
+	{ "round", 3, MANY_RUNS, set_round, draw_any, make_encrypt_prepared, note_encrypt_prepared },
+	{ "last-round", 3, MANY_RUNS, set_last_round, draw_any, make_encrypt_prepared, note_encrypt_prepared },
+	{ "inverse-round", 3, MANY_RUNS, set_inverse_round, draw_any, make_decrypt, note_decrypt },
+	{ "last-inverse-round", 3, MANY_RUNS, set_last_inverse_round, draw_any, make_decrypt, note_decrypt },
+};
+const size_t block_call_count = sizeof block_calls / sizeof block_calls[0];
+
+const struct call whole_call = { "encryption", 1, MANY_RUNS, set_whole, draw_any, make_encrypt, note_encrypt };

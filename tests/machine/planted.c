@@ -1,0 +1,62 @@
+/* Faults that the test must find each time, at order 1. */
+#include "calls.h"
+
+#include "inputs.h"
+
+#define RUNS 60
+
+/* Document 01's first mistake: the product with its brackets moved. Its field products are made beforehand; each is one step. */
+static uint8_t times[2][2];
+
+static void set_moved(void) { inputs_whole(in.n, DOKKUMEL_PRODUCT_TAPE(in.order), in.n); }
+
+static void draw_moved(size_t run)
+{
+	draw_field(run);
+	for (int i = 0; i < 2; i++)
+		for (int j = 0; j < 2; j++)
+			times[i][j] = step_times(in.left[i], in.right[j]);
+}
+
+static void make_moved(void)
+{
+	volatile uint8_t both = times[0][1];
+
+	both ^= times[1][0];
+	in.out[0] = times[0][0] ^ in.tape[0];
+	in.out[1] = times[1][1] ^ (both ^ in.tape[0]);
+}
+
+static void note_moved(void)
+{
+	struct tape t = { in.tape, 0 };
+	uint8_t places[MAX_PLACES];
+
+	step_product(in.order, in.left, in.right, &t, in.second, places);
+}
+
+/* Doubles a column in each of two shares, and holds a byte of both shares on the way. */
+static void set_column(void) { inputs_whole(2 * 4, 0, 2 * 4); }
+
+static void make_two_shares(void)
+{
+	for (int k = 0; k < 8; k++)
+		in.out[k] = (uint8_t)(in.left[k] << 1 ^ (in.left[k] >> 7) * 0x1b);
+	volatile uint8_t both = in.out[1] ^ in.out[4 + 1];
+
+	in.out[1] = both ^ in.out[4 + 1];
+}
+
+static void note_two_shares(void)
+{
+	for (int k = 0; k < 8; k++)
+		in.second[k] = note(step_times(note(in.left[k], "byte %d of share %d", k % 4, k / 4), 2), "byte %d of share %d doubled", k % 4, k / 4);
+	note_column(in.left);
+	note_column(in.left + 4);
+}
+
+const struct call planted[] = {
+	{ "planted: brackets moved", 1, RUNS, set_moved, draw_moved, make_moved, note_moved },
+	{ "planted: two shares in a byte", 1, RUNS, set_column, draw_field, make_two_shares, note_two_shares },
+};
+const size_t planted_count = sizeof planted / sizeof planted[0];
