@@ -8,6 +8,7 @@
 // - no loop over shares has a constant bound, and no function is written for each order: an unrolled loop is one expression again;
 // - no two XORs of one chain stand in one loop;
 // - every row that carries a chain is read by a later loop;
+// - a running sum is a scan: each sum is stored, and the last is read back at an index that is known only when it runs;
 // - after any change, run tests/machine/run. It tests the built library: every byte that the machine holds is a function of one place.
 ghost use mathlib.Core.Path.{_≡_};
 ghost use Prim.Native.Nat.{_+_, _≤_, _<_};
