@@ -66,11 +66,11 @@ impl Tape<'_> {
 const MOST: usize = 9;
 type Shares = [u8; MOST];
 
-fn square_all(n: usize, x: &mut Shares, times_squared: usize) {
+/// Each share to the power 2 times half, for powers 2, 4 and 16. In a log 256 counts as 1; that of 00 becomes 255, whose double leads into the zeros.
+fn raise_all(n: usize, x: &mut Shares, half: usize) {
     for share in x.iter_mut().take(n) {
-        for _ in 0..times_squared {
-            *share = times(*share, *share);
-        }
+        let t = LOGS[*share as usize] as usize * half;
+        *share = ANTILOGS[2 * (t % 256 + t / 256)];
     }
 }
 
@@ -99,14 +99,14 @@ fn product(n: usize, a: &Shares, b: &Shares, tape: &mut Tape) -> Shares {
 
 fn s_box(n: usize, x: &Shares, tape: &mut Tape) -> Shares {
     let mut z = *x;
-    square_all(n, &mut z, 1);
+    raise_all(n, &mut z, 1);
     refresh(n, &mut z, tape);
     let y = product(n, &z, x, tape);
     let mut w = y;
-    square_all(n, &mut w, 2);
+    raise_all(n, &mut w, 2);
     refresh(n, &mut w, tape);
     let mut y = product(n, &y, &w, tape);
-    square_all(n, &mut y, 4);
+    raise_all(n, &mut y, 8);
     let y = product(n, &y, &w, tape);
     let mut y = product(n, &y, &z, tape);
     for share in y.iter_mut().take(n) {

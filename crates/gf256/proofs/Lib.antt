@@ -4,6 +4,7 @@ pub mod ProductLaws
 pub mod FromTopLaws
 pub mod InverseLaws
 pub mod TablesLaws
+pub mod PowersLaws
 pub mod AffineLaws
 pub mod SBoxLaws
 pub mod ColumnLaws

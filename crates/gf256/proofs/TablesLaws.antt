@@ -127,14 +127,14 @@ logs-tested ls t = record {
 log-table-of : {ls es : List ℕ} → Tables ls es → Log-table ls
 log-table-of (lent l e) = l
 
-antilog-table-of : {ls es : List ℕ} → Tables ls es → Antilog-table es
+pub antilog-table-of : {ls es : List ℕ} → Tables ls es → Antilog-table es
 antilog-table-of (lent l e) = e
 
 module _ {ls es : List ℕ} (tables : Tables ls es) where
-  log-zero-of : at ls 0 ≡ 510
+  pub log-zero-of : at ls 0 ≡ 510
   log-zero-of = log-table-of tables .log-zero
 
-  log-of : (a : ℕ) → 0 < a → a < 256 → (at ls a < 255) × (power 3 (at ls a) ≡ a)
+  pub log-of : (a : ℕ) → 0 < a → a < 256 → (at ls a < 255) × (power 3 (at ls a) ≡ a)
   log-of = log-table-of tables .log-byte
 
   pub log-le : (a : ℕ) → a < 256 → at ls a ≤ 510

@@ -1,42 +1,29 @@
-// Squares, and powers 4 and 16 by repeated squaring, by logs. Each is additive, so it acts share by share.
+// Squares, and powers 4 and 16, by logs. Each is additive, so it acts share by share.
 ghost use mathlib.Core.Path.{_≡_};
-ghost use Rattle.gf256.specs.Field;
 ghost use Rattle.gf256.specs.Tables.{Tables};
-ghost use Rattle.gf256.specs.Exponents.{raised-to};
+ghost use Rattle.gf256.specs.Exponents.{raised-to, half-of};
 use crate::Exponent;
-use crate::table_product::table_times;
 use crate::tables::Antilogs;
 use crate::tables::Logs;
 
-fn squared(logs: &Logs, antilogs: &Antilogs, a: u8) -> u8
-    requires { ⌜ Tables (now logs) (now antilogs) ⌝ }
-    ensures { λ r. ⌜ r ≡ Field.squared a ⌝ }
+// Half of the exponent.
+fn half(which: Exponent) -> usize
+    ensures { λ r. ⌜ r ≡ half-of which ⌝ }
 {
-    table_times(logs, antilogs, a, a)
+    match which {
+        Exponent::Two => 1,
+        Exponent::Four => 2,
+        Exponent::Sixteen => 8,
+    }
 }
 
-fn fourth(logs: &Logs, antilogs: &Antilogs, a: u8) -> u8
-    requires { ⌜ Tables (now logs) (now antilogs) ⌝ }
-    ensures { λ r. ⌜ r ≡ Field.fourth a ⌝ }
-{
-    squared(logs, antilogs, squared(logs, antilogs, a))
-}
-
-fn sixteenth(logs: &Logs, antilogs: &Antilogs, a: u8) -> u8
-    requires { ⌜ Tables (now logs) (now antilogs) ⌝ }
-    ensures { λ r. ⌜ r ≡ Field.sixteenth a ⌝ }
-{
-    fourth(logs, antilogs, fourth(logs, antilogs, a))
-}
-
-// The power that is named.
+// The power that is named: half of the exponent times the log, then twice that. The powers of 03 repeat after 255, so 256 counts as 1, and what
+// stands above the low byte is added to it. From the log of 00 that makes 255, whose double leads into the antilogs' zeros: no branch.
 pub fn raised(logs: &Logs, antilogs: &Antilogs, which: Exponent, a: u8) -> u8
     requires { ⌜ Tables (now logs) (now antilogs) ⌝ }
     ensures { λ r. ⌜ r ≡ raised-to which a ⌝ }
 {
-    match which {
-        Exponent::Two => squared(logs, antilogs, a),
-        Exponent::Four => fourth(logs, antilogs, a),
-        Exponent::Sixteen => sixteenth(logs, antilogs, a),
-    }
+    let m = half(which);
+    let t = logs[a as usize] as usize * m;
+    antilogs[2 * (t % 256 + t / 256)]
 }

@@ -1,38 +1,96 @@
--- `gf256::powers::raised` meets its contract. Assumes nothing.
-use mathlib.Core.Path.{sym, ap, _∙_}
+-- `gf256::powers::raised` meets its contract: the tables' rule for powers, which holds at every byte. Assumes nothing.
 use borrow.Author.Needs.{needs}
-use Rattle.gf256.specs.Exponents.{raised-to}
+use mathlib.Core.Path.{_≡_, sym, subst}
+use mathlib.Core.List.{List}
+use Prim.Native.Nat.{ℕ, _+_, _*_, _/_, _%_, _≤_, _<_}
+use native.Mathlib.Omega.{arith}
+use lib.ListN.{getD}
+use mir.Syntax.{w64}
+use mir.Val.{Fits}
+use Rattle.xor.specs.Lists.{at}
+use Rattle.gf256.specs.Exponents.{raised-to, half-of}
+use Rattle.gf256.specs.Tables.{Tables}
 use Rattle.gf256.specs.declared.Exponent.{Exponent}
+use Rattle.gf256.proofs.TablesLaws.{log-le}
+use Rattle.gf256.proofs.PowersLaws.{folded, log-multiple-le, folded-le, table-power}
 use Rattle.gf256.proofs.powers.raised.Statement.{statement}
 use Rattle.gf256.proofs.powers.raised.Tie as tie
 
-enum-told : tie.Need-enum-told
-enum-told c = search needs
+-- the entries as the code reads them, and what it makes of them
+module _ {ls es : List ℕ} (tables : Tables ls es) where
+  log-small : (a : ℕ) → a < 256 → getD ls a 0 ≤ 510
+  unfolding at
+  log-small a h = log-le tables a h
 
-squared-requires : tie.Need-squared-requires
-squared-requires c κs = search needs
+  module _ (which : Exponent) (a : ℕ) (h : a < 256) {m : ℕ} (e : m ≡ half-of which) where
+    multiple-small : getD ls a 0 * m ≤ 4080
+    unfolding at
+    multiple-small = subst (λ (n : ℕ). at ls a * n ≤ 4080) (sym e) (log-multiple-le tables which a h)
 
-enum-told-2 : tie.Need-enum-told-2
-enum-told-2 c = search needs
+    folded-small : getD ls a 0 * m % 256 + getD ls a 0 * m / 256 ≤ 255
+    unfolding at folded
+    folded-small = subst (λ (n : ℕ). folded (at ls a * n) ≤ 255) (sym e) (folded-le tables which a h)
 
-fourth-requires : tie.Need-fourth-requires
-fourth-requires c κs = search needs
+    power-right : getD es (2 * (getD ls a 0 * m % 256 + getD ls a 0 * m / 256)) 0 ≡ raised-to which a
+    unfolding at folded
+    power-right = subst (λ (n : ℕ). at es (2 * folded (at ls a * n)) ≡ raised-to which a) (sym e) (table-power tables which a h)
 
-enum-told-3 : tie.Need-enum-told-3
-enum-told-3 c = search needs
+fitting : (k : ℕ) → k ≤ 4080 → Fits w64 k
+fitting k h = record { fits = omega arith }
 
-sixteenth-requires : tie.Need-sixteenth-requires
-sixteenth-requires c κs = search needs
+half-requires : tie.Need-half-requires
+half-requires c κs = search needs
+
+mul-t : tie.Need-mul-t
+mul-t c = search needs
+
+element-copy-out-t : tie.Need-element-copy-out-t
+element-copy-out-t c = search needs
+
+cast-t : tie.Need-cast-t
+cast-t c =
+    let s = c .before .before in
+    let l = log-small (s .pre) (s .args .a) (s .fits .a .fits) in
+    fitting _ (omega arith)
+
+mul-t-2 : tie.Need-mul-t-2
+mul-t-2 c =
+    let s = c .before .before in
+    fitting _ (multiple-small (s .pre) (s .args .which) (s .args .a) (s .fits .a .fits) (c .before .half .ensures))
+
+add-result : tie.Need-add-result
+add-result c =
+    let s = c .before .before in
+    let f = folded-small (s .pre) (s .args .which) (s .args .a) (s .fits .a .fits) (c .before .half .ensures) in
+    fitting _ (omega arith)
+
+mul-result : tie.Need-mul-result
+mul-result c =
+    let s = c .before .before in
+    let f = folded-small (s .pre) (s .args .which) (s .args .a) (s .fits .a .fits) (c .before .half .ensures) in
+    fitting _ (omega arith)
+
+element-copy-out-result : tie.Need-element-copy-out-result
+element-copy-out-result c =
+    let s = c .before .before in
+    let f = folded-small (s .pre) (s .args .which) (s .args .a) (s .fits .a .fits) (c .before .half .ensures) in
+    omega arith
 
 returns : tie.Need-returns
-returns c = c .squared .ensures ∙ sym (ap (λ (w : Exponent). raised-to w (c .before .before .before .args .a)) (c .before .enum-told .given .1))
-
-returns-2 : tie.Need-returns-2
-returns-2 c = c .fourth .ensures ∙ sym (ap (λ (w : Exponent). raised-to w (c .before .before .before .args .a)) (c .before .enum-told2 .given .1))
-
-returns-3 : tie.Need-returns-3
-returns-3 c = c .sixteenth .ensures ∙ sym (ap (λ (w : Exponent). raised-to w (c .before .before .before .args .a)) (c .before .enum-told3 .given .1))
+returns c =
+    let s = c .before .before .before in
+    power-right (s .pre) (s .args .which) (s .args .a) (s .fits .a .fits) (c .before .before .half .ensures)
 
 pub raised-spec : {M : Type 1} → statement M
 raised-spec =
-    tie.close (tie.spec enum-told squared-requires enum-told-2 fourth-requires enum-told-3 sixteenth-requires returns returns-2 returns-3)
+    tie.close
+    (tie.spec
+    half-requires
+    mul-t
+    element-copy-out-t
+    cast-t
+    mul-t-2
+    add-result
+    mul-result
+    element-copy-out-result
+    returns)
