@@ -16,7 +16,7 @@ use Rattle.gf256.proofs.ProductLaws.{times-one-l}
 use Rattle.gf256.proofs.InverseLaws.{power-lt, power-add, squared-power, fourth-power, sixteenth-power, times-power-254}
 use Rattle.gf256.proofs.TablesLaws.{log-zero-of, log-of, log-le, antilog-table-of}
 
--- what stands above the low byte, added to it
+-- what stands above the low byte, added to it (reduction modulo 255, by a carry at the low end)
 unfoldable pub folded : ℕ → ℕ
 folded t = t % 256 + t / 256
 

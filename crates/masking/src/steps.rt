@@ -94,35 +94,6 @@ fn back_row(
     }
 }
 
-// The pairs of row i with the w shares behind it, whose draws stand at the front of the tape: the bytes of each over the fronts of four rows,
-// a_i · b_j, r(i, j) XOR a_i · b_j, a_j · b_i and r(j, i). Answers with how many bytes were drawn.
-fn pair_row(
-    logs: &Logs,
-    antilogs: &Antilogs,
-    i: usize,
-    w: usize,
-    a: &[u8],
-    b: &[u8],
-    tape: &[u8],
-    cross: &mut [u8],
-    half: &mut [u8],
-    crossed: &mut [u8],
-    back: &mut [u8],
-) -> usize
-    requires { ⌜ (i + 1 + w ≤ 9) × (i + 1 + w ≤ length (now a)) × (i + 1 + w ≤ length (now b))
-        × (w ≤ length (now tape)) × (w ≤ length (now cross)) × (w ≤ length (now half))
-        × (w ≤ length (now crossed)) × (w ≤ length (now back)) × Tables (now logs) (now antilogs) ⌝ }
-    ensures { λ k. ⌜ (k ≡ w)
-        × (now (cross .exit) ≡ front (tab (Steps.crosses (now (a .entry)) (now (b .entry)) i) w) (now (cross .entry)))
-        × (now (half .exit) ≡ front (tab (Steps.halves (now (a .entry)) (now (b .entry)) (now (tape .entry)) i) w) (now (half .entry)))
-        × (now (crossed .exit) ≡ front (tab (Steps.crosseds (now (a .entry)) (now (b .entry)) i) w) (now (crossed .entry)))
-        × (now (back .exit) ≡ front (tab (Steps.backs (now (a .entry)) (now (b .entry)) (now (tape .entry)) i) w) (now (back .entry))) ⌝ }
-{
-    let drawn = half_row(logs, antilogs, i, w, a, b, tape, cross, half);
-    back_row(logs, antilogs, i, w, a, b, half, crossed, back);
-    drawn
-}
-
 // The pairs of row i with the w shares behind it go into the running sums: the draws, which stand at the front of the tape, into that of share i,
 // whose bytes on the way are left in own; each r(j, i) of the row back into that of share j.
 fn sum_row(i: usize, w: usize, tape: &[u8], back: &[u8], own: &mut [u8], sums: &mut [u8])
@@ -143,7 +114,8 @@ fn sum_row(i: usize, w: usize, tape: &[u8], back: &[u8], own: &mut [u8], sums: &
     sums[i] = own[w - 1];
 }
 
-// Row i of the pairs, and then its running sums. Answers with how many bytes were drawn.
+// The pairs of row i with the w shares behind it, whose draws stand at the front of the tape, and then its running sums. The bytes of each pair are
+// left over the fronts of four rows: a_i · b_j, r(i, j) XOR a_i · b_j, a_j · b_i and r(j, i). Answers with how many bytes were drawn.
 pub fn take_row(
     logs: &Logs,
     antilogs: &Antilogs,
@@ -171,7 +143,8 @@ pub fn take_row(
         × (now (own .exit) ≡ front (Steps.owns (now (tape .entry)) (now (sums .entry)) i w) (now (own .entry)))
         × (now (sums .exit) ≡ Steps.pairs-taken (now (a .entry)) (now (b .entry)) (now (tape .entry)) i w (now (sums .entry))) ⌝ }
 {
-    let drawn = pair_row(logs, antilogs, i, w, a, b, tape, cross, half, crossed, back);
+    let drawn = half_row(logs, antilogs, i, w, a, b, tape, cross, half);
+    back_row(logs, antilogs, i, w, a, b, half, crossed, back);
     sum_row(i, w, tape, back, own, sums);
     drawn
 }

@@ -1,12 +1,16 @@
 -- `masking::steps::take_row` meets its contract. Assumes nothing.
 use borrow.Author.Needs.{needs}
 use denote.Ref.{now}
+use Rattle.masking.proofs.SheetParts.{backs-right}
 use Rattle.masking.proofs.SumsLaws.{row-taken-backs}
 use Rattle.masking.proofs.steps.take_row.Statement.{statement}
 use Rattle.masking.proofs.steps.take_row.Tie as tie
 
-pair-row-requires : tie.Need-pair-row-requires
-pair-row-requires c κs = search needs
+half-row-requires : tie.Need-half-row-requires
+half-row-requires c κs = search needs
+
+back-row-requires : tie.Need-back-row-requires
+back-row-requires c κs = search needs
 
 sum-row-requires : tie.Need-sum-row-requires
 sum-row-requires c κs = search needs
@@ -32,21 +36,25 @@ same-length-6 c = search needs
 returns : tie.Need-returns
 returns c =
     let c₄ = c .before .before .before .before in
-    let c₁₆ = c₄ .before .before .before .before .before .before .before .before .before .before .before .before in
-    let c₃₀ = c₁₆ .before .before .before .before .before .before .before .before .before .before .before .before .before .before in
-    let v = c₃₀ .args in
-    let p = c₁₆ .pair-row .ensures in
-    let s = c₄ .sum-row .ensures in
+    let c₁₂ = c₄ .before .before .before .before .before .before .before .before in
+    let c₂₀ = c₁₂ .before .before .before .before .before .before .before .before in
+    let c₃₂ = c₂₀ .before .before .before .before .before .before .before .before .before .before .before .before in
+    let v = c₃₂ .args in
     let a = now (v .a) in
     let b = now (v .b) in
     let ts = now (v .tape) in
-    (p .0, p .1, p .2, p .3, p .4, s .0, row-taken-backs a b ts (v .i) (v .w) (now (v .sums)) _ _ (now (v .back)) (p .4) (s .1))
+    let h = c₂₀ .half-row .ensures in
+    let k = c₁₂ .back-row .ensures in
+    let s = c₄ .sum-row .ensures in
+    let r = backs-right a b ts (v .i) (v .w) _ _ _ (now (v .back)) (h .2) (k .1) in
+    (h .0, h .1, h .2, k .0, r, s .0, row-taken-backs a b ts (v .i) (v .w) (now (v .sums)) _ _ (now (v .back)) r (s .1))
 
 pub take-row-spec : {M : Type 1} → statement M
 take-row-spec =
     tie.close
     (tie.spec
-    pair-row-requires
+    half-row-requires
+    back-row-requires
     sum-row-requires
     same-length
     same-length-2
