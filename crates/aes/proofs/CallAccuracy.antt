@@ -18,9 +18,11 @@ use Rattle.shares.proofs.StringsLaws.{shares-of, laid-long}
 use Rattle.cipher.specs.Fips197.{rounds, key-expansion, cipher-with, cipher, inv-cipher}
 use Rattle.cipher.specs.Cipher.{schedule-need, prepared-laid, encrypted-with-need, encrypted-with-laid, cipher-need, encrypted-laid, decrypted-laid}
 use Rattle.cipher.proofs.Accuracy.{schedule-shared, encrypted-with-shared, encrypted-shared, decrypted-shared, prepared-joins-laid, encrypted-with-joins-laid, cipher-joins-laid, inv-cipher-joins-laid, encrypted-from-prepared}
-use Rattle.aes.specs.Calls.{key-words, prepared-length, prepared-words, Encrypt-outcome, Decrypt-outcome, Prepare-outcome, Encrypt-prepared-outcome, after}
+use Rattle.lengths.specs.Lengths.{key-words, prepared-length, prepared-words}
+use Rattle.aes.specs.Calls.{Encrypt-outcome, Decrypt-outcome, Prepare-outcome, Encrypt-prepared-outcome, after}
 use Rattle.aes.specs.Directions.{laid-of, cipher-of, Single-outcome}
-use Rattle.aes.proofs.CallsLaws.{key-sized, key-length, prepared-long, prepared-words-of, single-is}
+use Rattle.lengths.proofs.LengthsLaws.{key-sized, key-length, prepared-long, prepared-words-of}
+use Rattle.aes.proofs.CallsLaws.{single-is}
 
 -- ---- lengths
 

@@ -13,12 +13,13 @@ use Rattle.shares.specs.declared.Answer.the-variants.{Taken, Refused}
 use Rattle.shares.specs.Outcome.{Outcome, unserved, answered}
 use Rattle.shares.proofs.OutcomeLaws.{Ends, outcome-answer, guarded-ends, answered-fits}
 use Rattle.cipher.specs.Cipher.{schedule-need, encrypted-with-need, cipher-need}
-use Rattle.aes.specs.declared.Job.{Job}
-use Rattle.aes.specs.declared.Job.the-variants.{Single, Preparation, Prepared}
-use Rattle.aes.specs.Fits.{Key-size}
-use Rattle.aes.specs.Calls.{prepared-length, Encrypt-outcome, Decrypt-outcome, Prepare-outcome, Encrypt-prepared-outcome}
-use Rattle.aes.specs.Previews.{words-of, input-fits, output-length, need-of, Job-answer, Encrypt-preview, Decrypt-preview, Prepare-preview, Encrypt-prepared-preview, Foretells, Answers-by-length}
-use Rattle.aes.proofs.CallsLaws.{key-words-of, prepared-words-of, size-bounds}
+use Rattle.lengths.specs.declared.Job.{Job}
+use Rattle.lengths.specs.declared.Job.the-variants.{Single, Preparation, Prepared}
+use Rattle.lengths.specs.Lengths.{Key-size}
+use Rattle.lengths.specs.Lengths.{prepared-length}
+use Rattle.aes.specs.Calls.{Encrypt-outcome, Decrypt-outcome, Prepare-outcome, Encrypt-prepared-outcome}
+use Rattle.lengths.specs.Previews.{words-of, input-fits, output-length, need-of, Job-answer, Encrypt-preview, Decrypt-preview, Prepare-preview, Encrypt-prepared-preview, Foretells, Answers-by-length}
+use Rattle.lengths.proofs.LengthsLaws.{key-words-of, prepared-words-of, size-bounds}
 
 -- ---- a call ends with its preview's answer: with what it makes, or with the output as it was
 

@@ -18,8 +18,9 @@ use Rattle.shares.proofs.RoundTrip.{split-laid-joins}
 use Rattle.cipher.specs.Fips197.{inv-cipher}
 use Rattle.cipher.specs.Cipher.{cipher-need, decrypted-laid}
 use Rattle.cipher.proofs.InverseCipherLaws.{inv-cipher-undoes, joined-parts-below}
-use Rattle.aes.specs.Calls.{key-words, Encrypt-outcome, Decrypt-outcome}
-use Rattle.aes.proofs.CallsLaws.{key-length}
+use Rattle.lengths.specs.Lengths.{key-words}
+use Rattle.aes.specs.Calls.{Encrypt-outcome, Decrypt-outcome}
+use Rattle.lengths.proofs.LengthsLaws.{key-length}
 use Rattle.aes.proofs.CallAccuracy.{key-joined, Carried, single-carried, decrypt-then-join}
 
 -- key shares at orders d and e of the same key: as many words, and they join to the same bytes

@@ -1,36 +1,13 @@
 -- The outcome of each public routine on every input, refusals included. Document 01, "Turned-down calls", decides, for prepared keys document 02,
 -- wish 1, and for decryption wish 2. Assumes nothing: these are definitions.
-use mathlib.Core.Bool.{cond, true}
+use mathlib.Core.Bool.{true}
 use mathlib.Core.List.{List}
-use Prim.Native.Nat.{ℕ, suc, _+_, _*_, _/_}
+use Prim.Native.Nat.{ℕ, _+_, _*_}
 use lib.Dec.{ltb, eqb}
 use lib.ListN.{length}
-use Rattle.shares.specs.Outcome.{Outcome, done, refused, guarded, share-length}
-use Rattle.cipher.specs.Fips197.{rounds}
+use Rattle.shares.specs.Outcome.{Outcome, done, refused, guarded}
 use Rattle.cipher.specs.Cipher.{schedule-need, prepared-laid, encrypted-with-need, encrypted-with-laid, cipher-need, encrypted-laid, decrypted-laid}
-
--- ---- lengths
-
--- how many words the key has, by the length of its n = d + 1 shares: 4, 6 or 8, and 0 where the length is no key's
-unfoldable pub key-words : (d length : ℕ) → ℕ
-key-words d l = share-length (d + 1) l / 4
-
--- the length of prepared keys: n · 16 · (Nr + 1)
-unfoldable pub prepared-length : (nk d : ℕ) → ℕ
-prepared-length nk d = (d + 1) * (16 * suc (rounds nk))
-
--- how many words the key behind prepared keys has, by their length: 4, 6 or 8, and 0 where it is none of the three
-unfoldable pub prepared-words : (d length : ℕ) → ℕ
-prepared-words d l =
-    cond (eqb l (prepared-length 4 d)) 4
-    (cond (eqb l (prepared-length 6 d)) 6
-    (cond (eqb l (prepared-length 8 d)) 8 0))
-
--- how many S-boxes the expansion of such a key has
-unfoldable pub boxes-of : (nk : ℕ) → ℕ
-boxes-of nk = cond (eqb nk 4) 40 (cond (eqb nk 6) 32 52)
-
--- ---- the routines
+use Rattle.lengths.specs.Lengths.{key-words, prepared-length, prepared-words}
 
 -- encryption: key shares, then an input and an output of n · 16 bytes
 unfoldable pub Encrypt-outcome : (order : ℕ) (key input tape output : List ℕ) → Outcome

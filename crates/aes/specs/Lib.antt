@@ -1,4 +1,2 @@
-pub mod Fits
 pub mod Calls
-pub mod Previews
 pub mod Directions

@@ -2,16 +2,16 @@
 ghost use mathlib.Core.Path.{_≡_};
 ghost use Rattle.shares.specs.Outcome.{outcome};
 ghost use Rattle.aes.specs.Calls.{Prepare-outcome, Encrypt-prepared-outcome};
-use crate::Job;
-use crate::sizes;
 use gf256::Direction;
+use lengths::Job;
+use lengths::sizes;
 use shares::Answer;
 
 // The masked key expansion, once: round keys 0 to Nr of share 0, then those of share 1, and so on.
 pub fn prepare(order: usize, key: &[u8], tape: &[u8], output: &mut [u8]) -> Answer
     ensures { λ r. ⌜ outcome r (now (output .exit)) ≡ Prepare-outcome order (now (key .entry)) (now (tape .entry)) (now (output .entry)) ⌝ }
 {
-    let answer = crate::answers::answer(
+    let answer = lengths::answers::answer(
         Job::Preparation,
         order,
         key.len(),
@@ -38,7 +38,7 @@ pub fn encrypt_prepared(
 ) -> Answer
     ensures { λ r. ⌜ outcome r (now (output .exit)) ≡ Encrypt-prepared-outcome order (now (prepared .entry)) (now (input .entry)) (now (tape .entry)) (now (output .entry)) ⌝ }
 {
-    let answer = crate::answers::answer(
+    let answer = lengths::answers::answer(
         Job::Prepared,
         order,
         prepared.len(),
@@ -52,7 +52,7 @@ pub fn encrypt_prepared(
     let nk = sizes::prepared_words(order, prepared.len());
     let logs = gf256::logs();
     let antilogs = gf256::antilogs();
-    Answer::Taken(crate::rounds::rounds_core(
+    Answer::Taken(rounds::rounds::rounds_core(
         &logs,
         &antilogs,
         Direction::Forward,

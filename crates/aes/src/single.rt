@@ -8,11 +8,11 @@ ghost use Rattle.cipher.specs.Fips197.{rounds};
 ghost use Rattle.cipher.specs.Cipher as Cipher;
 ghost use Rattle.aes.specs.Calls.{Encrypt-outcome, Decrypt-outcome};
 ghost use Rattle.aes.specs.Directions.{laid-of, Single-outcome};
-use crate::Job;
-use crate::sizes;
 use gf256::Antilogs;
 use gf256::Direction;
 use gf256::Logs;
+use lengths::Job;
+use lengths::sizes;
 use shares::Answer;
 
 // The key expansion draws first, then the rounds.
@@ -33,7 +33,7 @@ fn block_with(
 {
     let drawn = schedule::expansion::expand_core(logs, antilogs, nk, d, key, tape, keys);
     drawn
-        + crate::rounds::rounds_core(
+        + rounds::rounds::rounds_core(
             logs,
             antilogs,
             which,
@@ -88,7 +88,7 @@ fn call(
 ) -> Answer
     ensures { λ r. ⌜ outcome r (now (output .exit)) ≡ Single-outcome which order (now (key .entry)) (now (input .entry)) (now (tape .entry)) (now (output .entry)) ⌝ }
 {
-    let answer = crate::answers::answer(
+    let answer = lengths::answers::answer(
         Job::Single,
         order,
         key.len(),

@@ -10,7 +10,7 @@ use lib.Dec.{ltb, eqb}
 use lib.ListN.{length, getD, take, drop}
 use Rattle.xor.specs.Lists.{at}
 use Rattle.xor.specs.Sums.{joined}
-use Rattle.gf256.specs.Document03.{size}
+use Rattle.field_laws.specs.Document03.{size}
 use Rattle.gf256.specs.Field.{doubled, times, squared, fourth, sixteenth, affine}
 use Rattle.isw.specs.Document03.{product, product-tape}
 

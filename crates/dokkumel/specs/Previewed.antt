@@ -2,7 +2,7 @@
 -- decides the previews.
 use Prim.Native.Nat.{ℕ}
 use Rattle.shares.specs.declared.Answer.{Answer}
-use Rattle.aes.specs.Previews.{Encrypt-preview, Decrypt-preview, Prepare-preview, Encrypt-prepared-preview}
+use Rattle.lengths.specs.Previews.{Encrypt-preview, Decrypt-preview, Prepare-preview, Encrypt-prepared-preview}
 use Rattle.dokkumel.specs.declared.previews.Route.{Route}
 use Rattle.dokkumel.specs.declared.previews.Route.the-variants.{Encrypt, Decrypt, Prepare, EncryptPrepared}
 

@@ -2,7 +2,7 @@
 // order. Each function prints some lines, or a part of one, and answers with where the walk then stands. How many bytes a step takes is the
 // library's own number.
 ghost use Prim.Native.Nat.{_≤_};
-ghost use Rattle.aes.specs.Fits.{Key-size};
+ghost use Rattle.lengths.specs.Lengths.{Key-size};
 use crate::answers;
 use crate::arguments;
 use shares::Refusal;
@@ -112,9 +112,9 @@ fn rounds(nk: usize, d: usize, start: Spot) -> Spot
 fn print_needs(nk: usize, d: usize)
     requires { ⌜ (d ≤ 8) × Key-size nk ⌝ }
 {
-    text::print_with(b"total ", aes::needs::cipher_need(nk, d));
-    text::print_with(b"\npreparation ", aes::needs::schedule_need(nk, d));
-    text::print_with(b", rounds ", aes::needs::rounds_need(nk, d));
+    text::print_with(b"total ", lengths::needs::cipher_need(nk, d));
+    text::print_with(b"\npreparation ", lengths::needs::schedule_need(nk, d));
+    text::print_with(b", rounds ", lengths::needs::rounds_need(nk, d));
     text::print(
         b"\ndecryption, in a single call only: the same, where round 1 is the first to run and state bytes are those after InvShiftRows\n",
     );

@@ -15,7 +15,7 @@ mod places;
 mod previews;
 mod reading;
 mod routines;
-mod sheets;
+mod sheet;
 
 use crate::commands::Command;
 

@@ -28,10 +28,16 @@ fn foretold(
     ensures { λ r. ⌜ r ≡ previewed route order key input tape output ⌝ }
 {
     match route {
-        Route::Encrypt => aes::preview_encrypt(order, key, input, tape, output),
-        Route::Decrypt => aes::preview_decrypt(order, key, input, tape, output),
-        Route::Prepare => aes::preview_prepare(order, key, tape, output),
-        Route::EncryptPrepared => aes::preview_encrypt_prepared(order, key, input, tape, output),
+        Route::Encrypt => lengths::preview_encrypt(order, key, input, tape, output),
+        Route::Decrypt => lengths::preview_decrypt(order, key, input, tape, output),
+        Route::Prepare => lengths::preview_prepare(order, key, tape, output),
+        Route::EncryptPrepared => lengths::preview_encrypt_prepared(
+            order,
+            key,
+            input,
+            tape,
+            output,
+        ),
     }
 }
 

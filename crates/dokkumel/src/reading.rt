@@ -58,7 +58,7 @@ fn run_in(
     output: &mut [u8],
 ) {
     if fill(list) {
-        let a = masking::read_places(order, left, right, tape, list, output);
+        let a = sheets::read_places(order, left, right, tape, list, output);
         answers::print(a, output);
     }
 }

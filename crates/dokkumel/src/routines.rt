@@ -30,8 +30,8 @@ fn room(c: Command, order: usize, length: usize) -> usize
     let n = order + 1;
     match c {
         Command::Encrypt | Command::Decrypt | Command::EncryptPrepared => in_shares(n, 16),
-        Command::Prepare => aes::sizes::prepared_length(
-            aes::sizes::key_words(order, length),
+        Command::Prepare => lengths::sizes::prepared_length(
+            lengths::sizes::key_words(order, length),
             order,
         ),
         Command::Split => in_shares(n, length),

@@ -5,7 +5,7 @@ use mathlib.Core.List.{List, []}
 use Prim.Native.Nat.{ℕ}
 use lib.ListN.{length}
 use Rattle.aes.specs.Calls.{Encrypt-outcome, Decrypt-outcome, Prepare-outcome, Encrypt-prepared-outcome}
-use Rattle.aes.specs.Previews.{Encrypt-preview, Decrypt-preview, Prepare-preview, Encrypt-prepared-preview}
+use Rattle.lengths.specs.Previews.{Encrypt-preview, Decrypt-preview, Prepare-preview, Encrypt-prepared-preview}
 use Rattle.aes.proofs.Foretold.{encrypt-ends, decrypt-ends, prepare-ends, encrypt-prepared-ends}
 use Rattle.dokkumel_c.specs.Returned.{gives, returned, foretold}
 use Rattle.dokkumel_c.proofs.ReturnedLaws.{preview-returns}

@@ -1,7 +1,7 @@
 // Asking beforehand, for C: the status and the count that a call would give, from the order and the lengths of its buffers.
 ghost use mathlib.Core.Path.{_≡_};
 ghost use mathlib.Core.List.{[]};
-ghost use Rattle.aes.specs.Previews.{Encrypt-preview, Decrypt-preview, Prepare-preview, Encrypt-prepared-preview};
+ghost use Rattle.lengths.specs.Previews.{Encrypt-preview, Decrypt-preview, Prepare-preview, Encrypt-prepared-preview};
 ghost use Rattle.dokkumel_c.specs.Returned.{gives, foretold};
 
 #[no_mangle]
@@ -15,7 +15,7 @@ pub extern "C" fn dokkumel_preview_encrypt(
 ) -> u32
     ensures { λ r. ⌜ gives r (now (taken .exit)) [] ≡ foretold (Encrypt-preview order «key_len» «input_len» «tape_len» «output_len») (now (taken .entry)) ⌝ }
 {
-    let answer = aes::preview_encrypt(order, key_len, input_len, tape_len, output_len);
+    let answer = lengths::preview_encrypt(order, key_len, input_len, tape_len, output_len);
     crate::status::give(answer, taken)
 }
 
@@ -30,7 +30,7 @@ pub extern "C" fn dokkumel_preview_decrypt(
 ) -> u32
     ensures { λ r. ⌜ gives r (now (taken .exit)) [] ≡ foretold (Decrypt-preview order «key_len» «input_len» «tape_len» «output_len») (now (taken .entry)) ⌝ }
 {
-    let answer = aes::preview_decrypt(order, key_len, input_len, tape_len, output_len);
+    let answer = lengths::preview_decrypt(order, key_len, input_len, tape_len, output_len);
     crate::status::give(answer, taken)
 }
 
@@ -44,7 +44,7 @@ pub extern "C" fn dokkumel_preview_prepare(
 ) -> u32
     ensures { λ r. ⌜ gives r (now (taken .exit)) [] ≡ foretold (Prepare-preview order «key_len» «tape_len» «output_len») (now (taken .entry)) ⌝ }
 {
-    let answer = aes::preview_prepare(order, key_len, tape_len, output_len);
+    let answer = lengths::preview_prepare(order, key_len, tape_len, output_len);
     crate::status::give(answer, taken)
 }
 
@@ -59,7 +59,7 @@ pub extern "C" fn dokkumel_preview_encrypt_prepared(
 ) -> u32
     ensures { λ r. ⌜ gives r (now (taken .exit)) [] ≡ foretold (Encrypt-prepared-preview order «prepared_len» «input_len» «tape_len» «output_len») (now (taken .entry)) ⌝ }
 {
-    let answer = aes::preview_encrypt_prepared(
+    let answer = lengths::preview_encrypt_prepared(
         order,
         prepared_len,
         input_len,

@@ -1,6 +1,7 @@
 // The masked product, its sheet and the reading of places, for C.
 ghost use mathlib.Core.Path.{_≡_};
-ghost use Rattle.masking.specs.Calls.{Product-outcome, Sheet-outcome, Reading-outcome};
+ghost use Rattle.masking.specs.Calls.{Product-outcome};
+ghost use Rattle.sheets.specs.Calls.{Sheet-outcome, Reading-outcome};
 ghost use Rattle.dokkumel_c.specs.Returned.{gives, returned};
 
 #[no_mangle]
@@ -29,7 +30,7 @@ pub extern "C" fn dokkumel_product_sheet(
 ) -> u32
     ensures { λ r. ⌜ gives r (now (taken .exit)) (now (output .exit)) ≡ returned (Sheet-outcome order (now (left .entry)) (now (right .entry)) (now (tape .entry)) (now (output .entry))) (now (taken .entry)) ⌝ }
 {
-    let answer = masking::product_sheet(order, left, right, tape, output);
+    let answer = sheets::product_sheet(order, left, right, tape, output);
     crate::status::give(answer, taken)
 }
 
@@ -45,6 +46,6 @@ pub extern "C" fn dokkumel_read_places(
 ) -> u32
     ensures { λ r. ⌜ gives r (now (taken .exit)) (now (output .exit)) ≡ returned (Reading-outcome order (now (left .entry)) (now (right .entry)) (now (tape .entry)) (now (list .entry)) (now (output .entry))) (now (taken .entry)) ⌝ }
 {
-    let answer = masking::read_places(order, left, right, tape, list, output);
+    let answer = sheets::read_places(order, left, right, tape, list, output);
     crate::status::give(answer, taken)
 }

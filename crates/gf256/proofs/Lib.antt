@@ -2,10 +2,8 @@ pub mod TableTest
 pub mod DigitMasks
 pub mod ProductLaws
 pub mod FromTopLaws
-pub mod InverseLaws
+pub mod ExponentLaws
 pub mod TablesLaws
 pub mod PowersLaws
 pub mod AffineLaws
-pub mod SBoxLaws
 pub mod ColumnLaws
-pub mod Document03Laws

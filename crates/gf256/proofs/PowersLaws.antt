@@ -4,7 +4,6 @@ use mathlib.Core.List.{List}
 use Prim.Native.Nat.{ℕ, zero, suc, _+_, _*_, _/_, _%_, _≤_, _<_}
 use native.Mathlib.Nat.{zero-lt-suc}
 use native.Mathlib.Omega.{arith}
-use lib.Dec.{lit<}
 use Rattle.xor.specs.Lists.{at}
 use Rattle.xor.specs.Digit.{if-set}
 use Rattle.gf256.specs.Field.{doubled, times-from, times, squared, fourth, sixteenth, power}
@@ -13,7 +12,7 @@ use Rattle.gf256.specs.Tables.{Antilog-table, Tables}
 use Rattle.gf256.specs.declared.Exponent.{Exponent}
 use Rattle.gf256.specs.declared.Exponent.the-variants.{Two, Four, Sixteen}
 use Rattle.gf256.proofs.ProductLaws.{times-one-l}
-use Rattle.gf256.proofs.InverseLaws.{power-lt, power-add, squared-power, fourth-power, sixteenth-power, times-power-254}
+use Rattle.gf256.proofs.ExponentLaws.{power-lt, power-add, squared-power, fourth-power, sixteenth-power}
 use Rattle.gf256.proofs.TablesLaws.{log-zero-of, log-of, log-le, antilog-table-of}
 
 -- what stands above the low byte, added to it (reduction modulo 255, by a carry at the low end)
@@ -21,8 +20,8 @@ unfoldable pub folded : ℕ → ℕ
 folded t = t % 256 + t / 256
 
 power-255 : power 3 255 ≡ 1
-unfolding power
-power-255 = times-power-254 3 (lit< tt) (lit< tt)
+unfolding power times times-from doubled if-set
+power-255 = refl
 
 -- 255 more change nothing
 power-turns : (q k : ℕ) → power 3 (255 * q + k) ≡ power 3 k

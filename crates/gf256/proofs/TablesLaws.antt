@@ -13,7 +13,7 @@ use Rattle.gf256.specs.FromTop.{from-top}
 use Rattle.gf256.specs.Tables.{Log-table, Antilog-table, Tables, lent}
 use Rattle.gf256.proofs.TableTest.{both, both-left, both-right, all, all-at}
 use Rattle.gf256.proofs.ProductLaws.{times-assoc, times-lt, times-zero-l, times-zero-r, times-one-l}
-use Rattle.gf256.proofs.InverseLaws.{power-add}
+use Rattle.gf256.proofs.ExponentLaws.{power-add}
 use Rattle.gf256.proofs.FromTopLaws.{from-top-after-bit}
 
 -- ---- antilogs: so many powers, and then zeros

@@ -1,5 +1,5 @@
 -- The terms of a product: where the draws of a row of pairs stand on the tape, which terms its bytes are, and what a row counts. Assumes nothing.
-use mathlib.Core.Path.{_≡_, refl, sym, ap}
+use mathlib.Core.Path.{_≡_, refl, sym, ap, _∙_}
 use mathlib.Core.List.{List}
 use Prim.Native.Nat.{ℕ, zero, suc, _+_, _*_, _-_, _≤_, _<_}
 use native.Mathlib.Omega.{arith}
@@ -9,11 +9,12 @@ use lib.Bits.{bitXor}
 use lib.ListN.{length, take, drop}
 use lib.Seq.{getD-drop}
 use Rattle.xor.specs.Lists.{at, tab}
-use Rattle.xor.proofs.ListsLaws.{map-tab}
+use Rattle.xor.proofs.ListsLaws.{map-tab, tab-cong}
 use Rattle.gf256.specs.Field.{times}
 use Rattle.isw.specs.Place.{part, half-sum, other, term, row, byte, outputs, before-row, draw-index, drawn, product-need, value, product}
-use Rattle.shares.proofs.WriteLaws.{length-part-rest}
-use Rattle.masking.specs.Steps.{backs}
+use Rattle.shares.specs.Writes.{front}
+use Rattle.shares.proofs.WriteLaws.{length-part-rest, at-front}
+use Rattle.masking.specs.Steps.{halves, crosseds, backs}
 
 -- ---- the rows of pairs on the tape: each starts where the one before it ends
 
@@ -96,3 +97,10 @@ module _ (d i k : ℕ) (h : i < d) (e : k ≡ before-row (d + 1) i) where
 pub product-rows : (d : ℕ) (a b ts : List ℕ) → tab (λ i. row times (at a) (at b) (drawn (d + 1) ts) i d) (d + 1) ≡ product times d a b ts
 unfolding product outputs value byte
 product-rows d a b ts = rw add-one (sym (map-tab (byte times (at a) (at b) (drawn (suc d) ts)) (λ i. part i d) (suc d)))
+
+-- the second half of the pairs of a row, on the first half's bytes
+pub backs-right : (a b tape : List ℕ) (i w : ℕ) (h o q x : List ℕ) → h ≡ front (tab (halves a b tape i) w) o
+    → q ≡ front (tab (λ m. bitXor (at h m) (crosseds a b i m)) w) x → q ≡ front (tab (backs a b tape i) w) x
+backs-right a b tape i w h o q x e f =
+    f ∙ ap (λ (l : List ℕ). front l x)
+    (tab-cong _ _ w (λ m l. ap (λ (z : ℕ). bitXor z (crosseds a b i m)) (at-front (halves a b tape i) w m h o e l)))

@@ -1,27 +1,12 @@
 -- What the smaller routines of every masked product of bytes leave: the bytes of a row of pairs, and the running sums that take them in.
 -- Document 01, "The steps over shares", decides. Assumes nothing: these are definitions.
-use mathlib.Core.List.{List, [], _∷_}
+use mathlib.Core.List.{List}
 use Prim.Native.Nat.{ℕ, zero, suc, _+_}
 use lib.Bits.{bitXor}
 use lib.ListN.{set}
-use Rattle.xor.specs.Lists.{at, runs, tab}
+use Rattle.xor.specs.Lists.{at, tab}
 use Rattle.gf256.specs.Field.{times}
 use Rattle.isw.specs.Place.{running}
-use Rattle.masking.specs.declared.Pair.{Pair}
-
--- the five bytes of a pair i < j, from the drawn byte and the shares a_i, b_j, a_j, b_i
-abbrev pub pair-of : (r ai bj aj bi : ℕ) → Pair
-pair-of r ai bj aj bi = record {
-  drawn = r;
-  cross = times ai bj;
-  half = bitXor r (times ai bj);
-  crossed = times aj bi;
-  back = bitXor (bitXor r (times ai bj)) (times aj bi);
-}
-
--- in the order of their places
-abbrev pub bytes-of : Pair → List ℕ
-bytes-of p = p .drawn ∷ p .cross ∷ p .half ∷ p .crossed ∷ p .back ∷ []
 
 -- the bytes of the pairs of row i, with the shares behind it, whose draws stand at the front of the tape: pair m is that with share i + 1 + m
 module _ (a b : List ℕ) where
@@ -40,14 +25,6 @@ module _ (a b : List ℕ) where
   -- r(j, i): the brackets stand as document 01 has them
   abbrev pub backs : (tape : List ℕ) (i m : ℕ) → ℕ
   backs ts i m = bitXor (halves ts i m) (crosseds i m)
-
--- five rows of w bytes, pair by pair
-unfoldable pub five-rows : (drawn cross half crossed back : List ℕ) (w : ℕ) → List ℕ
-five-rows r c h d k w = runs (λ m. bytes-of (record { drawn = at r m; cross = at c m; half = at h m; crossed = at d m; back = at k m })) w
-
--- all bytes of the pairs of row i, with the shares i + 1 to i + w
-unfoldable pub row-bytes : (a b tape : List ℕ) (i w : ℕ) → List ℕ
-row-bytes a b ts i w = runs (λ m. bytes-of (pair-of (at ts m) (at a i) (at b (i + 1 + m)) (at a (i + 1 + m)) (at b i))) w
 
 -- ---- the running sums
 

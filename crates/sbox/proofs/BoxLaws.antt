@@ -2,7 +2,7 @@
 use mathlib.Core.Path.{_≡_, refl, sym, ap, ap₂, _∙_}
 use mathlib.Core.List.{List, [], _∷_, _++_, map}
 use Prim.Native.Nat.{ℕ, zero, suc, _+_, _-_, _*_, _%_, _<_, _≤_}
-use native.Mathlib.Nat.{mul-suc, mul-assoc}
+use native.Mathlib.Nat.{mul-suc, mul-assoc, mul-le-mul}
 use native.Mathlib.Omega.{arith}
 use lib.Dec.{lit<}
 use lib.Bits.{bitXor}
@@ -127,6 +127,12 @@ inverse-box-joins = box-of-joins Inverse
 pub box-need-is : (d : ℕ) → box-need d ≡ 2 * d * d + 4 * d
 unfolding box-need stage-need
 box-need-is d = omega (arith, refresh-need-is d, twice-need d, mul-suc d d, mul-assoc 2 d d)
+
+pub box-need-bound : (d : ℕ) → d ≤ 8 → box-need d ≤ 160
+box-need-bound d h =
+    let t : 2 * d ≤ 16 = omega arith in
+    let m : 2 * d * d ≤ 128 = mul-le-mul t h in
+    omega (arith, box-need-is d)
 
 -- ---- the constant into share 0
 

@@ -2,7 +2,7 @@
 ghost use mathlib.Core.Path.{_≡_};
 ghost use Prim.Native.Nat.{_+_, _*_, _≤_};
 ghost use lib.ListN.{length};
-ghost use Rattle.aes.specs.Calls.{prepared-length};
+ghost use Rattle.lengths.specs.Lengths.{prepared-length};
 use crate::answers;
 use crate::counts;
 use crate::counts::Tally;
@@ -132,7 +132,7 @@ fn compare_key(nk: usize, order: usize, key: &[u8], known: &[u8], tape: &[u8], t
     let mut keys = io::buffer();
     let mut picked = [0u8; 144];
     let mut joined = [0u8; 16];
-    let size = aes::sizes::prepared_length(nk, order);
+    let size = lengths::sizes::prepared_length(nk, order);
     let room = (order + 1) * 16;
     compare_with(
         nk,

@@ -64,8 +64,8 @@ fn twice(order: usize, key: &[u8], input: &[u8], tape: &[u8], output: &mut [u8])
     if 8 < order {
         return Came::Once(Answer::Refused(Refusal::Order));
     }
-    let nk = aes::sizes::key_words(order, key.len());
-    let size = aes::sizes::prepared_length(nk, order);
+    let nk = lengths::sizes::key_words(order, key.len());
+    let size = lengths::sizes::prepared_length(nk, order);
     let room = (order + 1) * 16;
     both(
         order,

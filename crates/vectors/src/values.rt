@@ -112,7 +112,7 @@ fn read_into(list: &[u16], w: Wanted, known: &[u8], output: &mut [u8], t: Tally)
     let right = [0x83, 0x1d, 0xe6];
     let tape = [0x71, 0x2e, 0xc4];
     print_reading(order, list);
-    let a = masking::read_places(order, &left, &right, &tape, list, output);
+    let a = sheets::read_places(order, &left, &right, &tape, list, output);
     shown(output, known, a, w, t)
 }
 

@@ -7,10 +7,11 @@ use lib.ListN.{length}
 use Rattle.gf256.specs.Tables.{lent}
 use Rattle.shares.proofs.OutcomeLaws.{answered-refused, answered-done}
 use Rattle.cipher.specs.Cipher.{encrypted-with-need, encrypted-with-laid}
-use Rattle.aes.specs.declared.Job.the-variants.{Prepared}
+use Rattle.lengths.specs.declared.Job.the-variants.{Prepared}
 use Rattle.aes.specs.Calls.{Encrypt-prepared-outcome}
-use Rattle.aes.proofs.CallsLaws.{prepared-long, block-long, keys-long, encrypted-with-made}
-use Rattle.aes.proofs.PreviewsLaws.{let-through}
+use Rattle.lengths.proofs.LengthsLaws.{prepared-long}
+use Rattle.aes.proofs.CallsLaws.{block-long, keys-long, encrypted-with-made}
+use Rattle.lengths.proofs.PreviewsLaws.{let-through}
 use Rattle.aes.proofs.preparation.encrypt_prepared.Statement.{statement}
 use Rattle.aes.proofs.preparation.encrypt_prepared.Tie as tie
 

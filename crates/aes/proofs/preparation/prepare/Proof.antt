@@ -8,10 +8,11 @@ use lib.ListN.{length}
 use Rattle.gf256.specs.Tables.{lent}
 use Rattle.shares.proofs.OutcomeLaws.{answered-refused, answered-done}
 use Rattle.cipher.specs.Cipher.{schedule-need, prepared-laid}
-use Rattle.aes.specs.declared.Job.the-variants.{Preparation}
+use Rattle.lengths.specs.declared.Job.the-variants.{Preparation}
 use Rattle.aes.specs.Calls.{Prepare-outcome}
-use Rattle.aes.proofs.CallsLaws.{key-length, key-long, keys-long, prepared-made}
-use Rattle.aes.proofs.PreviewsLaws.{let-through}
+use Rattle.lengths.proofs.LengthsLaws.{key-length}
+use Rattle.aes.proofs.CallsLaws.{key-long, keys-long, prepared-made}
+use Rattle.lengths.proofs.PreviewsLaws.{let-through}
 use Rattle.aes.proofs.preparation.prepare.Statement.{statement}
 use Rattle.aes.proofs.preparation.prepare.Tie as tie
 

@@ -7,10 +7,11 @@ use lib.ListN.{length}
 use Rattle.gf256.specs.Tables.{lent}
 use Rattle.shares.proofs.OutcomeLaws.{answered-refused, answered-done}
 use Rattle.cipher.specs.Cipher.{cipher-need}
-use Rattle.aes.specs.declared.Job.the-variants.{Single}
+use Rattle.lengths.specs.declared.Job.the-variants.{Single}
 use Rattle.aes.specs.Directions.{laid-of}
-use Rattle.aes.proofs.CallsLaws.{key-length, block-long, key-long, single-is}
-use Rattle.aes.proofs.PreviewsLaws.{let-through}
+use Rattle.lengths.proofs.LengthsLaws.{key-length}
+use Rattle.aes.proofs.CallsLaws.{block-long, key-long, single-is}
+use Rattle.lengths.proofs.PreviewsLaws.{let-through}
 use Rattle.aes.proofs.single.call.Statement.{statement}
 use Rattle.aes.proofs.single.call.Tie as tie
 

@@ -1,6 +1,6 @@
 -- `dokkumel::layout::print` meets its contract. Assumes nothing.
 use borrow.Author.Needs.{needs}
-use Rattle.aes.proofs.CallsLaws.{size-bounds}
+use Rattle.lengths.proofs.LengthsLaws.{size-bounds}
 use Rattle.dokkumel.proofs.layout.print.Statement.{statement}
 use Rattle.dokkumel.proofs.layout.print.Tie as tie
 

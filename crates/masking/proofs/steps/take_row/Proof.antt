@@ -1,7 +1,7 @@
 -- `masking::steps::take_row` meets its contract. Assumes nothing.
 use borrow.Author.Needs.{needs}
 use denote.Ref.{now}
-use Rattle.masking.proofs.SheetParts.{backs-right}
+use Rattle.masking.proofs.TermsLaws.{backs-right}
 use Rattle.masking.proofs.SumsLaws.{row-taken-backs}
 use Rattle.masking.proofs.steps.take_row.Statement.{statement}
 use Rattle.masking.proofs.steps.take_row.Tie as tie

@@ -1,7 +1,7 @@
 -- `vectors::round_keys::compare_with` meets its contract. Assumes nothing.
 use native.Mathlib.Omega.{arith}
 use borrow.Author.Needs.{needs}
-use Rattle.aes.proofs.CallsLaws.{prepared-length-is}
+use Rattle.lengths.proofs.LengthsLaws.{prepared-length-is}
 use Rattle.vectors.proofs.round_keys.compare_with.Statement.{statement}
 use Rattle.vectors.proofs.round_keys.compare_with.Tie as tie
 

@@ -1,0 +1,3 @@
+pub mod InverseLaws
+pub mod SBoxLaws
+pub mod Document03Laws

@@ -1,0 +1,39 @@
+-- `sheets::reading::read_places` meets its contract. Assumes nothing.
+use mathlib.Core.Path.{_∙_}
+use borrow.Author.Needs.{needs}
+use Rattle.shares.proofs.WriteLaws.{length-part-first}
+use Rattle.sheets.proofs.reading.read_places.Statement.{statement}
+use Rattle.sheets.proofs.reading.read_places.Tie as tie
+
+sheet-size-requires : tie.Need-sheet-size-requires
+sheet-size-requires c κs = search needs
+
+sub-read-with : tie.Need-sub-read-with
+sub-read-with c = search needs
+
+part-sheet-start : tie.Need-part-sheet-start
+part-sheet-start c = search needs
+
+part-sheet-end : tie.Need-part-sheet-end
+part-sheet-end c = search needs
+
+read-with-requires : tie.Need-read-with-requires
+read-with-requires c κs = λ e. length-part-first _ _ (c .before .before .sheet-size .ensures .1) ∙ c .before .before .sheet-size .ensures .0 e
+
+same-length : tie.Need-same-length
+same-length c = search needs
+
+returns : tie.Need-returns
+returns c = search needs
+
+pub read-places-spec : {M : Type 1} → statement M
+read-places-spec =
+    tie.close
+    (tie.spec
+    sheet-size-requires
+    sub-read-with
+    part-sheet-start
+    part-sheet-end
+    read-with-requires
+    same-length
+    returns)

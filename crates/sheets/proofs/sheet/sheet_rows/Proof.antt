@@ -1,0 +1,201 @@
+use Rattle.masking.proofs.TermsLaws.{product-need-last, row-counts, row-fits, row-room}
+-- `sheets::sheet::sheet_rows` meets its contract. Assumes nothing.
+use mathlib.Core.Path.{_≡_, refl, ap, sym, _∙_}
+use mathlib.Core.List.{List}
+use Prim.Native.Nat.{ℕ, _≤_, _+_, _-_}
+use native.Mathlib.Omega.{arith}
+use borrow.Author.Needs.{needs}
+use denote.Ref.{now}
+use lib.ListN.{length, drop}
+use Rattle.xor.specs.Lists.{runs}
+use Rattle.isw.specs.Place.{before-row, product-need}
+use Rattle.shares.specs.Writes.{front}
+use Rattle.shares.proofs.WriteLaws.{part-rest}
+use Rattle.sheets.specs.Parts.{pairs-before}
+use Rattle.masking.proofs.SumsLaws.{length-starts}
+use Rattle.sheets.proofs.PartsLaws.{Gathered, gathered-start, gathered-row, gathered-all}
+use Rattle.sheets.proofs.SheetParts.{few-drawn, pairs-written, pairs-last}
+use Rattle.sheets.proofs.sheet.sheet_rows.Statement.{statement}
+use Rattle.sheets.proofs.sheet.sheet_rows.Tie as tie
+
+abbrev Inv-loop : tie.InvT-loop
+Inv-loop logs antilogs d a b tape sums₀ table₀ out₀ n drawn₀ i₀ sums table out drawn i =
+    (i ≤ d) × (drawn ≡ before-row (d + 1) i) × (before-row (d + 1) i ≤ product-need d)
+    × (out ≡ front (pairs-before (d + 1) a b tape i) out₀) × (length out ≡ length out₀) × (length sums ≡ d + 1) × (length table ≡ 81)
+    × Gathered d a b tape i sums table
+
+abbrev μ-loop : tie.MeasureT-loop
+μ-loop logs antilogs d a b tape sums₀ table₀ out₀ n drawn₀ i₀ sums table out drawn i = d - i
+
+add-n : tie.Need-add-n Inv-loop μ-loop
+add-n c = search needs
+
+start-sums-requires : tie.Need-start-sums-requires Inv-loop μ-loop
+start-sums-requires c κs = search needs
+
+put-starts-requires : tie.Need-put-starts-requires Inv-loop μ-loop
+put-starts-requires c κs = search needs
+
+loop-holds : tie.Need-loop-holds Inv-loop μ-loop
+unfolding front before-row runs
+loop-holds c =
+    let c₇ = c .before .before .before .before .before .before .before in
+    let s = c₇ .before .before .before .before .before .before .before .before in
+    let v = s .args in
+    let e = c₇ .start-sums .ensures in (
+      search needs,
+      refl,
+      search needs,
+      refl,
+      refl,
+      length-starts _ _ _ _ e,
+      search needs,
+      gathered-start (v .d) (now (v .a)) (now (v .b)) (now (v .tape)) _ (now (v .table)) (s .pre .0) (s .pre .5) _ e
+          (c .before .before .put-starts .ensures),
+    )
+
+mul-at : tie.Need-mul-at Inv-loop μ-loop
+mul-at c = search needs
+
+sub-sheet-row : tie.Need-sub-sheet-row Inv-loop μ-loop
+sub-sheet-row c = search needs
+
+sub-sheet-row-2 : tie.Need-sub-sheet-row-2 Inv-loop μ-loop
+sub-sheet-row-2 c = search needs
+
+part-sheet-row-start : tie.Need-part-sheet-row-start Inv-loop μ-loop
+part-sheet-row-start c = search needs
+
+part-sheet-row-end : tie.Need-part-sheet-row-end Inv-loop μ-loop
+part-sheet-row-end c = search needs
+
+sub-sheet-row-3 : tie.Need-sub-sheet-row-3 Inv-loop μ-loop
+sub-sheet-row-3 c = search needs
+
+part-sheet-row-start-2 : tie.Need-part-sheet-row-start-2 Inv-loop μ-loop
+part-sheet-row-start-2 c = search needs
+
+part-sheet-row-end-2 : tie.Need-part-sheet-row-end-2 Inv-loop μ-loop
+part-sheet-row-end-2 c = search needs
+
+sheet-row-requires : tie.Need-sheet-row-requires Inv-loop μ-loop
+sheet-row-requires c κs =
+    let c₄ = c .before .before .before .before in
+    let c₅ = c₄ .before in
+    let s = c₅ .before .before .before .before .before .before .before .before .before .before .before .before .before .before .before .before in
+    let l = c₅ .loop in
+    let v = s .args in
+    let p = s .pre in
+    let h = c₄ .loop-test .taken in
+    let a = now (v .a) in
+    let b = now (v .b) in
+    let ts = now (v .tape) in
+    let r = row-fits (v .d) (l .i) (l .drawn) h (l .inv .1) a b ts (l .sums) (p .0) (p .1) (p .2) (p .3) (l .inv .5) in
+    let o = row-room (v .d) (l .i) (l .drawn) h (l .inv .1) (now (v .out)) (l .out) (p .6) (l .inv .4) in
+    (r .0, r .1, r .2, r .3, r .4, r .5, l .inv .6, o .1, p .7)
+
+add-drawn : tie.Need-add-drawn Inv-loop μ-loop
+add-drawn c =
+    let c₆ = c .before .before .before .before .before .before in
+    let c₁₁ = c₆ .before .before .before .before .before in
+    let c₁₂ = c₁₁ .before in
+    let s = c₁₂ .before .before .before .before .before .before .before .before .before .before .before .before .before .before .before .before in
+    let l = c₁₂ .loop in
+    let r = row-counts (s .args .d) (l .i) (l .drawn) (c₁₁ .loop-test .taken) (l .inv .1) in
+    let few = few-drawn (s .args .d) (s .pre .0) in
+    omega (arith, c₆ .sheet-row .ensures .0)
+
+add-i : tie.Need-add-i Inv-loop μ-loop
+add-i c = search needs
+
+loop-less : tie.Need-loop-less Inv-loop μ-loop
+loop-less c = search needs
+
+loop-again : tie.Need-loop-again Inv-loop μ-loop
+loop-again c =
+    let c₃ = c .before .before .before in
+    let c₅ = c₃ .before .before in
+    let c₆ = c₅ .before in
+    let c₁₁ = c₆ .before .before .before .before .before in
+    let c₁₂ = c₁₁ .before in
+    let s = c₁₂ .before .before .before .before .before .before .before .before .before .before .before .before .before .before .before .before in
+    let l = c₁₂ .loop in
+    let v = s .args in
+    let t = c₆ .sheet-row .ensures in
+    let w = v .d - l .i in
+    let ts = now (v .tape) in
+    let h = c₁₁ .loop-test .taken in
+    let r = row-counts (v .d) (l .i) (l .drawn) h (l .inv .1) in
+    let o = row-room (v .d) (l .i) (l .drawn) h (l .inv .1) (now (v .out)) (l .out) (s .pre .6) (l .inv .4) in
+    let f = part-rest ts (l .drawn) ∙ ap (λ (k : ℕ). drop k ts) (l .inv .1) in (
+      r .0,
+      ap (_+_ (l .drawn)) (t .0) ∙ r .1,
+      r .2,
+      pairs-written (v .d + 1) (now (v .a)) (now (v .b)) ts (l .i) (l .drawn) w (l .out) _ (now (v .out))
+          (l .inv .1) (r .3) (o .0) (l .inv .3) (t .1),
+      c .before .out .given .1 ∙ l .inv .4,
+      c₅ .sums2 .given ∙ l .inv .5,
+      c₃ .table2 .given ∙ l .inv .6,
+      gathered-row (v .d) (now (v .a)) (now (v .b)) ts (l .sums) (l .table) (s .pre .0) (l .inv .6) (l .i) w _ _ _ (r .3) f
+          (l .inv .5) (t .2) (t .3) (l .inv .7),
+    )
+
+same-length : tie.Need-same-length Inv-loop μ-loop
+same-length c =
+    let c₁₀ = c .before .before .before .before .before .before .before .before .before .before in
+    let c₁₇ = c₁₀ .before .before .before .before .before .before .before in
+    c .before .loop .inv .5 ∙ sym (c₁₇ .pre .4)
+
+same-length-2 : tie.Need-same-length-2 Inv-loop μ-loop
+same-length-2 c =
+    let c₁₀ = c .before .before .before .before .before .before .before .before .before .before in
+    let c₁₇ = c₁₀ .before .before .before .before .before .before .before in
+    c .before .loop .inv .6 ∙ sym (c₁₇ .pre .5)
+
+same-length-3 : tie.Need-same-length-3 Inv-loop μ-loop
+same-length-3 c = search needs
+
+returns : tie.Need-returns Inv-loop μ-loop
+returns c =
+    let c₁₀ = c .before .before .before .before .before .before .before .before .before .before in
+    let c₁₇ = c₁₀ .before .before .before .before .before .before .before in
+    let l = c .before .loop in
+    let v = c₁₇ .args in
+    let d = v .d in
+    let e : l .i ≡ d = omega arith in
+    let z : l .drawn ≡ before-row (d + 1) d = rw e at (l .inv .1) in
+    let a = now (v .a) in
+    let b = now (v .b) in
+    let ts = now (v .tape) in (
+      z ∙ sym (product-need-last d),
+      (rw e at (l .inv .3)) ∙ ap (λ (o : List ℕ). front o (now (v .out))) (pairs-last d a b ts),
+      gathered-all d a b ts (l .sums) (l .table) (rw e at (l .inv .7)),
+    )
+
+pub sheet-rows-spec : {M : Type 1} → statement M
+sheet-rows-spec =
+    tie.close
+    (tie.spec
+    Inv-loop
+    μ-loop
+    add-n
+    start-sums-requires
+    put-starts-requires
+    loop-holds
+    mul-at
+    sub-sheet-row
+    sub-sheet-row-2
+    part-sheet-row-start
+    part-sheet-row-end
+    sub-sheet-row-3
+    part-sheet-row-start-2
+    part-sheet-row-end-2
+    sheet-row-requires
+    add-drawn
+    add-i
+    loop-less
+    loop-again
+    same-length
+    same-length-2
+    same-length-3
+    returns)

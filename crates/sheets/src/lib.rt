@@ -1,0 +1,19 @@
+// The sheet of a masked product, which holds its intermediate bytes, and the reading of listed places.
+// Document 01 decides; specs/Calls.antt has the outcome of each public routine on every input.
+//
+// The routines of document 01 stand at the root, and ask nothing of a caller. What stands in the modules besides serves the crates above;
+// where it has a `requires`, its callers prove it.
+pub mod reading;
+pub mod sheet;
+
+pub use reading::read_places;
+pub use sheet::product_sheet;
+
+// The bytes of one pair of shares i < j, in the order of their places.
+pub struct Pair {
+    pub drawn: u8, // r(i, j)
+    pub cross: u8, // a_i · b_j
+    pub half: u8, // r(i, j) XOR a_i · b_j
+    pub crossed: u8, // a_j · b_i
+    pub back: u8, // r(j, i)
+}

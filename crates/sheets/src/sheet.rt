@@ -1,0 +1,296 @@
+// The sheet of a masked product: the byte at each of its places, in their order. No byte of it is computed here: each is one that the product's own
+// routines left. Document 01, "Places in one product", decides.
+ghost use mathlib.Core.Path.{_≡_};
+ghost use Prim.Native.Nat.{_+_, _*_, _≤_, _<_};
+ghost use lib.ListN.{length};
+ghost use Rattle.xor.specs.Lists.{at};
+ghost use Rattle.gf256.specs.Field as Field;
+ghost use Rattle.gf256.specs.Tables.{Tables};
+ghost use Rattle.isw.specs.Place as Place;
+ghost use Rattle.shares.specs.Outcome.{outcome};
+ghost use Rattle.shares.specs.Writes.{front};
+ghost use Rattle.masking.specs.Steps as Steps;
+ghost use Rattle.sheets.specs.Parts.{bytes-of, five-rows, row-bytes, pairs-before, sums-before, starts-put, row-put, table-rows};
+ghost use Rattle.sheets.specs.Calls.{Sheet-outcome};
+use crate::Pair;
+use gf256::Antilogs;
+use gf256::Logs;
+use shares::Answer;
+use shares::Refusal;
+
+// P(d), how many places there are.
+pub fn place_count(d: usize) -> usize
+    requires { ⌜ d ≤ 8 ⌝ }
+    ensures { λ r. ⌜ (r ≡ Place.place-count d) × (r ≤ 279) ⌝ }
+{
+    let n = d + 1;
+    2 * n + 5 * (d * n / 2) + n * n
+}
+
+// The five bytes of a pair, over the front of out.
+fn put_pair(p: Pair, out: &mut [u8])
+    requires { ⌜ 5 ≤ length (now out) ⌝ }
+    ensures { λ _. ⌜ now (out .exit) ≡ front (bytes-of p) (now (out .entry)) ⌝ }
+{
+    out[0] = p.drawn;
+    out[1] = p.cross;
+    out[2] = p.half;
+    out[3] = p.crossed;
+    out[4] = p.back;
+}
+
+// The pairs of a row whose bytes stand at the fronts of five rows, over the front of out.
+fn put_row(
+    w: usize,
+    tape: &[u8],
+    cross: &[u8],
+    half: &[u8],
+    crossed: &[u8],
+    back: &[u8],
+    out: &mut [u8],
+)
+    requires { ⌜ (w ≤ 8) × (w ≤ length (now tape)) × (w ≤ length (now cross)) × (w ≤ length (now half))
+        × (w ≤ length (now crossed)) × (w ≤ length (now back)) × (5 * w ≤ length (now out)) ⌝ }
+    ensures { λ _. ⌜ now (out .exit)
+        ≡ front (five-rows (now (tape .entry)) (now (cross .entry)) (now (half .entry)) (now (crossed .entry)) (now (back .entry)) w)
+        (now (out .entry)) ⌝ }
+{
+    for m in 0..w {
+        let p = Pair {
+            drawn: tape[m],
+            cross: cross[m],
+            half: half[m],
+            crossed: crossed[m],
+            back: back[m],
+        };
+        let at = 5 * m;
+        put_pair(p, &mut out[at..]);
+    }
+}
+
+// The starts of the running sums of n shares, into column 0 of the table: that of share k after q of its terms stands at k * 9 + q.
+fn put_starts(n: usize, sums: &[u8], table: &mut [u8])
+    requires { ⌜ (n ≤ 9) × (length (now sums) ≡ n) × (length (now table) ≡ 81) ⌝ }
+    ensures { λ _. ⌜ now (table .exit) ≡ starts-put (at (now (sums .entry))) (now (table .entry)) n ⌝ }
+{
+    for k in 0..n {
+        table[k * 9] = sums[k];
+    }
+}
+
+// What a row of pairs made of the running sums, into the table: share i's own, one after each draw, and that of each share behind it.
+fn put_sums(i: usize, w: usize, own: &[u8], sums: &[u8], table: &mut [u8])
+    requires { ⌜ (i + 1 + w ≤ 9) × (w ≤ length (now own)) × (i + 1 + w ≤ length (now sums)) × (length (now table) ≡ 81) ⌝ }
+    ensures { λ _. ⌜ now (table .exit) ≡ row-put i (at (now (own .entry))) (at (now (sums .entry))) (now (table .entry)) w ⌝ }
+{
+    let next = i + 1;
+    for m in 0..w {
+        let j = next + m;
+        table[i * 9 + j] = own[m];
+        table[j * 9 + next] = sums[j];
+    }
+}
+
+// Row i of the pairs as the product takes it, over the front of out, and what it made of the running sums, into the table.
+// Answers with how many bytes were drawn.
+fn sheet_row(
+    logs: &Logs,
+    antilogs: &Antilogs,
+    i: usize,
+    w: usize,
+    a: &[u8],
+    b: &[u8],
+    tape: &[u8],
+    sums: &mut [u8],
+    table: &mut [u8],
+    out: &mut [u8],
+) -> usize
+    requires { ⌜ (0 < w) × (i + 1 + w ≤ 9) × (i + 1 + w ≤ length (now a)) × (i + 1 + w ≤ length (now b))
+        × (w ≤ length (now tape)) × (i + 1 + w ≤ length (now sums)) × (length (now table) ≡ 81)
+        × (5 * w ≤ length (now out)) × Tables (now logs) (now antilogs) ⌝ }
+    ensures { λ k. ⌜ (k ≡ w)
+        × (now (out .exit) ≡ front (row-bytes (now (a .entry)) (now (b .entry)) (now (tape .entry)) i w) (now (out .entry)))
+        × (now (sums .exit) ≡ Steps.pairs-taken (now (a .entry)) (now (b .entry)) (now (tape .entry)) i w (now (sums .entry)))
+        × (now (table .exit)
+        ≡ row-put i (λ m. Place.running (at (now (sums .entry)) i) (at (now (tape .entry))) (m + 1))
+        (at (now (sums .exit))) (now (table .entry)) w) ⌝ }
+{
+    let mut cross = [0u8; 8];
+    let mut half = [0u8; 8];
+    let mut crossed = [0u8; 8];
+    let mut back = [0u8; 8];
+    let mut own = [0u8; 8];
+    let drawn = masking::steps::take_row(
+        logs,
+        antilogs,
+        i,
+        w,
+        a,
+        b,
+        tape,
+        &mut cross,
+        &mut half,
+        &mut crossed,
+        &mut back,
+        &mut own,
+        sums,
+    );
+    put_row(w, tape, &cross, &half, &crossed, &back, out);
+    put_sums(i, w, &own, sums, table);
+    drawn
+}
+
+// All pairs, over the front of out, and all running sums, into the table, with room for n sums. Answers with how many bytes were drawn.
+fn sheet_rows(
+    logs: &Logs,
+    antilogs: &Antilogs,
+    d: usize,
+    a: &[u8],
+    b: &[u8],
+    tape: &[u8],
+    sums: &mut [u8],
+    table: &mut [u8],
+    out: &mut [u8],
+) -> usize
+    requires { ⌜ (d ≤ 8) × (length (now a) ≡ d + 1) × (length (now b) ≡ d + 1)
+        × (Place.product-need d ≤ length (now tape)) × (length (now sums) ≡ d + 1)
+        × (length (now table) ≡ 81) × (5 * Place.product-need d ≤ length (now out))
+        × Tables (now logs) (now antilogs) ⌝ }
+    ensures { λ k. ⌜ (k ≡ Place.product-need d)
+        × (now (out .exit) ≡ front (pairs-before (d + 1) (now (a .entry)) (now (b .entry)) (now (tape .entry)) (d + 1)) (now (out .entry)))
+        × (table-rows (d + 1) (now (table .exit)) (d + 1) ≡ sums-before (d + 1) (now (a .entry)) (now (b .entry)) (now (tape .entry)) (d + 1)) ⌝ }
+{
+    let n = d + 1;
+    masking::steps::start_sums(logs, antilogs, n, a, b, sums);
+    put_starts(n, sums, table);
+    let mut drawn: usize = 0;
+    for i in 0..d {
+        let at = 5 * drawn;
+        drawn += sheet_row(
+            logs,
+            antilogs,
+            i,
+            d - i,
+            a,
+            b,
+            &tape[drawn..],
+            sums,
+            table,
+            &mut out[at..],
+        );
+    }
+    drawn
+}
+
+// The running sums of n shares, from the table, over the front of out.
+fn put_table(n: usize, table: &[u8], out: &mut [u8])
+    requires { ⌜ (n ≤ 9) × (length (now table) ≡ 81) × (n * n ≤ length (now out)) ⌝ }
+    ensures { λ _. ⌜ now (out .exit) ≡ front (table-rows n (now (table .entry)) n) (now (out .entry)) ⌝ }
+{
+    let mut filled: usize = 0;
+    for k in 0..n {
+        let start = k * 9;
+        let end = start + n;
+        shares::bytes::put(&table[start..end], &mut out[filled..]);
+        filled += n;
+    }
+}
+
+// The whole sheet, with room for n sums and a table. Answers with how many bytes were drawn.
+fn sheet_with(
+    logs: &Logs,
+    antilogs: &Antilogs,
+    d: usize,
+    a: &[u8],
+    b: &[u8],
+    tape: &[u8],
+    sums: &mut [u8],
+    table: &mut [u8],
+    out: &mut [u8],
+) -> usize
+    requires { ⌜ (d ≤ 8) × (length (now a) ≡ d + 1) × (length (now b) ≡ d + 1)
+        × (Place.product-need d ≤ length (now tape)) × (length (now sums) ≡ d + 1) × (length (now table) ≡ 81)
+        × (length (now out) ≡ Place.place-count d) × Tables (now logs) (now antilogs) ⌝ }
+    ensures { λ k. ⌜ (k ≡ Place.product-need d)
+        × (now (out .exit) ≡ Place.sheet Field.times d (now (a .entry)) (now (b .entry)) (now (tape .entry))) ⌝ }
+{
+    let n = d + 1;
+    shares::bytes::put(a, out);
+    shares::bytes::put(b, &mut out[n..]);
+    let pairs = 2 * n;
+    let drawn = sheet_rows(
+        logs,
+        antilogs,
+        d,
+        a,
+        b,
+        tape,
+        sums,
+        table,
+        &mut out[pairs..],
+    );
+    let behind = pairs + 5 * drawn;
+    put_table(n, table, &mut out[behind..]);
+    drawn
+}
+
+// The whole sheet. Answers with how many bytes were drawn.
+pub fn sheet_core(
+    logs: &Logs,
+    antilogs: &Antilogs,
+    d: usize,
+    a: &[u8],
+    b: &[u8],
+    tape: &[u8],
+    out: &mut [u8],
+) -> usize
+    requires { ⌜ (d ≤ 8) × (length (now a) ≡ d + 1) × (length (now b) ≡ d + 1)
+        × (Place.product-need d ≤ length (now tape)) × (length (now out) ≡ Place.place-count d)
+        × Tables (now logs) (now antilogs) ⌝ }
+    ensures { λ k. ⌜ (k ≡ Place.product-need d)
+        × (now (out .exit) ≡ Place.sheet Field.times d (now (a .entry)) (now (b .entry)) (now (tape .entry))) ⌝ }
+{
+    let mut sums = [0u8; 9];
+    let mut table = [0u8; 81];
+    let n = d + 1;
+    sheet_with(
+        logs,
+        antilogs,
+        d,
+        a,
+        b,
+        tape,
+        &mut sums[0..n],
+        &mut table,
+        out,
+    )
+}
+
+pub fn product_sheet(
+    order: usize,
+    left: &[u8],
+    right: &[u8],
+    tape: &[u8],
+    output: &mut [u8],
+) -> Answer
+    ensures { λ r. ⌜ outcome r (now (output .exit))
+        ≡ Sheet-outcome order (now (left .entry)) (now (right .entry)) (now (tape .entry)) (now (output .entry)) ⌝ }
+{
+    if shares::answers::unserved(order) {
+        return Answer::Refused(Refusal::Order);
+    }
+    let fits = masking::product::two_fit(order, left, right);
+    let answer = shares::answers::checked(
+        true,
+        fits,
+        output.len() == place_count(order),
+        tape.len(),
+        masking::product::product_need(order),
+    );
+    let Answer::Taken(_) = answer else {
+        return answer;
+    };
+    let logs = gf256::logs();
+    let antilogs = gf256::antilogs();
+    Answer::Taken(sheet_core(&logs, &antilogs, order, left, right, tape, output))
+}
