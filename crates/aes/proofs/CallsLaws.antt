@@ -1,14 +1,10 @@
 -- The lengths of a call as the cores count them, and what the cores make as the outcomes name it. Assumes nothing.
 use mathlib.Core.Path.{_≡_, refl, sym, ap, ap₂, _∙_}
-use mathlib.Core.Bool.{true}
 use mathlib.Core.List.{List}
-use Prim.Native.Nat.{ℕ, suc, _+_, _*_, _-_, _≤_}
-use native.Mathlib.Numerals.{add-one}
+use Prim.Native.Nat.{ℕ, suc, _*_, _-_, _≤_}
 use native.Mathlib.Omega.{arith}
-use borrow.Author.Tests.{eqb-true}
-use lib.Dec.{ltb, eqb}
 use lib.ListN.{length, take, drop}
-use Rattle.shares.specs.Outcome.{guarded}
+use Rattle.shares.specs.Outcome.{took, settled}
 use Rattle.gf256.specs.declared.Direction.{Direction}
 use Rattle.gf256.specs.declared.Direction.the-variants.{Forward, Inverse}
 use Rattle.shares.specs.Strings.{Shares, parts, laid}
@@ -19,38 +15,33 @@ use Rattle.cipher.specs.Cipher.{schedule, schedule-need, prepared-laid, encrypt
 use Rattle.cipher.proofs.Accuracy.{schedule-shared}
 use Rattle.rounds.specs.Directions.{with-of}
 use Rattle.lengths.specs.Lengths.{key-words, prepared-length}
+use Rattle.lengths.specs.Previews.{Single-tests}
 use Rattle.aes.specs.Calls.{Encrypt-outcome, Decrypt-outcome}
 use Rattle.aes.specs.Directions.{laid-of, Single-outcome}
 
 -- ---- lengths, as the cores count them
 
-pub block-long : (d l : ℕ) → eqb l ((d + 1) * 16) ≡ true → l ≡ suc d * 16
-block-long d l e = eqb-true l ((d + 1) * 16) e ∙ ap (λ (n : ℕ). n * 16) (add-one d)
-
-pub key-long : (nk d l : ℕ) → l ≡ (d + 1) * (4 * nk) → l ≡ suc d * (4 * nk)
-key-long nk d l e = e ∙ ap (λ (n : ℕ). n * (4 * nk)) (add-one d)
-
 pub keys-long : (nk d l : ℕ) → l ≡ prepared-length nk d → l ≡ suc d * (16 * suc (rounds nk))
 unfolding prepared-length
-keys-long nk d l e = e ∙ ap (λ (n : ℕ). n * (16 * suc (rounds nk))) (add-one d)
+keys-long nk d l e = e
 
 -- ---- what the cores make, as the outcomes name it
 
 pub prepared-made : (nk d : ℕ) (k ts keys : List ℕ) → keys ≡ laid (schedule nk d (parts (suc d) (4 * nk) k) ts) → keys ≡ prepared-laid nk d k ts
 unfolding prepared-laid
-prepared-made nk d k ts keys e = rw add-one e
+prepared-made nk d k ts keys e = e
 
 pub encrypted-with-made : (nk d : ℕ) (keys x ts q : List ℕ)
     → q ≡ laid (encrypted-with nk d (parts (suc d) (16 * suc (rounds nk)) keys) (parts (suc d) 16 x) ts) → q ≡ encrypted-with-laid nk d keys x ts
 unfolding encrypted-with-laid
-encrypted-with-made nk d keys x ts q e = rw add-one e
+encrypted-with-made nk d keys x ts q e = e
 
 -- a block from a key, as the two definitions have it
 block-laid : (w : Direction) (nk d : ℕ) (k x ts : List ℕ)
     → laid (with-of w nk d (schedule nk d (parts (suc d) (4 * nk) k) ts) (parts (suc d) 16 x) (drop (schedule-need nk d) ts)) ≡ laid-of w nk d k x ts
 unfolding encrypted-laid encrypted decrypted-laid decrypted
-block-laid Forward nk d k x ts = rw add-one refl
-block-laid Inverse nk d k x ts = rw add-one refl
+block-laid Forward nk d k x ts = refl
+block-laid Inverse nk d k x ts = refl
 
 -- a block, from the two calls that make it
 pub block-made : (w : Direction) (nk d n : ℕ) (k x ts keys q : List ℕ) → 1 ≤ nk → length k ≡ suc d * (4 * nk)
@@ -62,10 +53,10 @@ block-made w nk d n k x ts keys q h l e m g =
     let rest : take (length ts - n) (drop n ts) ≡ drop (schedule-need nk d) ts = part-rest ts n ∙ ap (λ (b : ℕ). drop b ts) m in
     g ∙ ap₂ (λ (ks : Shares) (t : List ℕ). laid (with-of w nk d ks (parts (suc d) 16 x) t)) back rest ∙ block-laid w nk d k x ts
 
--- ---- either single call is the guarded block
+-- ---- either single call, by its direction
 
 pub single-is : (w : Direction) (d : ℕ) (k x ts o : List ℕ)
-    → guarded d (ltb 0 (key-words d (length k))) (eqb (length x) ((d + 1) * 16)) (eqb (length o) ((d + 1) * 16)) (length ts) (cipher-need (key-words d (length k)) d) o (laid-of w (key-words d (length k)) d k x ts)
+    → settled (Single-tests d (length k) (length x) (length ts) (length o)) (took (cipher-need (key-words d (length k)) d)) o (laid-of w (key-words d (length k)) d k x ts)
     ≡ Single-outcome w d k x ts o
 unfolding Encrypt-outcome Decrypt-outcome
 single-is Forward d k x ts o = refl

@@ -3,29 +3,24 @@ ghost use mathlib.Core.Path.{_≡_};
 ghost use Rattle.shares.specs.Outcome.{outcome};
 ghost use Rattle.aes.specs.Calls.{Prepare-outcome, Encrypt-prepared-outcome};
 use gf256::Direction;
-use lengths::Job;
 use lengths::sizes;
 use shares::Answer;
+use shares::Count;
 
 // The masked key expansion, once: round keys 0 to Nr of share 0, then those of share 1, and so on.
 pub fn prepare(order: usize, key: &[u8], tape: &[u8], output: &mut [u8]) -> Answer
     ensures { λ r. ⌜ outcome r (now (output .exit)) ≡ Prepare-outcome order (now (key .entry)) (now (tape .entry)) (now (output .entry)) ⌝ }
 {
-    let answer = lengths::answers::answer(
-        Job::Preparation,
-        order,
-        key.len(),
-        0,
-        tape.len(),
-        output.len(),
-    );
+    let answer = lengths::answers::preparation_answer(order, key.len(), tape.len(), output.len());
     let Answer::Taken(_) = answer else {
         return answer;
     };
     let nk = sizes::key_words(order, key.len());
     let logs = gf256::logs();
     let antilogs = gf256::antilogs();
-    Answer::Taken(schedule::expansion::expand_core(&logs, &antilogs, nk, order, key, tape, output))
+    Answer::Taken(Count {
+        taken: schedule::expansion::expand_core(&logs, &antilogs, nk, order, key, tape, output),
+    })
 }
 
 // An encryption from prepared keys: the rounds with whatever these hold as round keys.
@@ -36,10 +31,10 @@ pub fn encrypt_prepared(
     tape: &[u8],
     output: &mut [u8],
 ) -> Answer
-    ensures { λ r. ⌜ outcome r (now (output .exit)) ≡ Encrypt-prepared-outcome order (now (prepared .entry)) (now (input .entry)) (now (tape .entry)) (now (output .entry)) ⌝ }
+    ensures { λ r. ⌜ outcome r (now (output .exit))
+        ≡ Encrypt-prepared-outcome order (now (prepared .entry)) (now (input .entry)) (now (tape .entry)) (now (output .entry)) ⌝ }
 {
-    let answer = lengths::answers::answer(
-        Job::Prepared,
+    let answer = lengths::answers::prepared_answer(
         order,
         prepared.len(),
         input.len(),
@@ -52,7 +47,7 @@ pub fn encrypt_prepared(
     let nk = sizes::prepared_words(order, prepared.len());
     let logs = gf256::logs();
     let antilogs = gf256::antilogs();
-    Answer::Taken(rounds::rounds::rounds_core(
+    let taken = rounds::rounds::rounds_core(
         &logs,
         &antilogs,
         Direction::Forward,
@@ -62,5 +57,6 @@ pub fn encrypt_prepared(
         input,
         tape,
         output,
-    ))
+    );
+    Answer::Taken(Count { taken: taken })
 }

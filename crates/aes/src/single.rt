@@ -11,9 +11,9 @@ ghost use Rattle.aes.specs.Directions.{laid-of, Single-outcome};
 use gf256::Antilogs;
 use gf256::Direction;
 use gf256::Logs;
-use lengths::Job;
 use lengths::sizes;
 use shares::Answer;
+use shares::Count;
 
 // The key expansion draws first, then the rounds.
 fn block_with(
@@ -28,8 +28,11 @@ fn block_with(
     keys: &mut [u8],
     output: &mut [u8],
 ) -> usize
-    requires { ⌜ (d ≤ 8) × (1 ≤ nk) × (nk ≤ 8) × (length (now key) ≡ suc d * (4 * nk)) × (length (now input) ≡ suc d * 16) × (length (now keys) ≡ suc d * (16 * suc (rounds nk))) × (length (now output) ≡ suc d * 16) × (Cipher.cipher-need nk d ≤ length (now tape)) × Tables (now logs) (now antilogs) ⌝ }
-    ensures { λ r. ⌜ (r ≡ Cipher.cipher-need nk d) × (now (output .exit) ≡ laid-of which nk d (now (key .entry)) (now (input .entry)) (now (tape .entry))) ⌝ }
+    requires { ⌜ (d ≤ 8) × (1 ≤ nk) × (nk ≤ 8) × (length (now key) ≡ suc d * (4 * nk)) × (length (now input) ≡ suc d * 16)
+        × (length (now keys) ≡ suc d * (16 * suc (rounds nk))) × (length (now output) ≡ suc d * 16)
+        × (Cipher.cipher-need nk d ≤ length (now tape)) × Tables (now logs) (now antilogs) ⌝ }
+    ensures { λ r. ⌜ (r ≡ Cipher.cipher-need nk d)
+        × (now (output .exit) ≡ laid-of which nk d (now (key .entry)) (now (input .entry)) (now (tape .entry))) ⌝ }
 {
     let drawn = schedule::expansion::expand_core(logs, antilogs, nk, d, key, tape, keys);
     drawn
@@ -58,8 +61,10 @@ fn block_core(
     tape: &[u8],
     output: &mut [u8],
 ) -> usize
-    requires { ⌜ (d ≤ 8) × (1 ≤ nk) × (nk ≤ 8) × (length (now key) ≡ suc d * (4 * nk)) × (length (now input) ≡ suc d * 16) × (length (now output) ≡ suc d * 16) × (Cipher.cipher-need nk d ≤ length (now tape)) × Tables (now logs) (now antilogs) ⌝ }
-    ensures { λ r. ⌜ (r ≡ Cipher.cipher-need nk d) × (now (output .exit) ≡ laid-of which nk d (now (key .entry)) (now (input .entry)) (now (tape .entry))) ⌝ }
+    requires { ⌜ (d ≤ 8) × (1 ≤ nk) × (nk ≤ 8) × (length (now key) ≡ suc d * (4 * nk)) × (length (now input) ≡ suc d * 16)
+        × (length (now output) ≡ suc d * 16) × (Cipher.cipher-need nk d ≤ length (now tape)) × Tables (now logs) (now antilogs) ⌝ }
+    ensures { λ r. ⌜ (r ≡ Cipher.cipher-need nk d)
+        × (now (output .exit) ≡ laid-of which nk d (now (key .entry)) (now (input .entry)) (now (tape .entry))) ⌝ }
 {
     let mut keys = [0u8; 2160];
     let size = sizes::prepared_length(nk, d);
@@ -86,10 +91,10 @@ fn call(
     tape: &[u8],
     output: &mut [u8],
 ) -> Answer
-    ensures { λ r. ⌜ outcome r (now (output .exit)) ≡ Single-outcome which order (now (key .entry)) (now (input .entry)) (now (tape .entry)) (now (output .entry)) ⌝ }
+    ensures { λ r. ⌜ outcome r (now (output .exit))
+        ≡ Single-outcome which order (now (key .entry)) (now (input .entry)) (now (tape .entry)) (now (output .entry)) ⌝ }
 {
-    let answer = lengths::answers::answer(
-        Job::Single,
+    let answer = lengths::answers::single_answer(
         order,
         key.len(),
         input.len(),
@@ -102,17 +107,21 @@ fn call(
     let nk = sizes::key_words(order, key.len());
     let logs = gf256::logs();
     let antilogs = gf256::antilogs();
-    Answer::Taken(block_core(&logs, &antilogs, which, nk, order, key, input, tape, output))
+    Answer::Taken(Count {
+        taken: block_core(&logs, &antilogs, which, nk, order, key, input, tape, output),
+    })
 }
 
 pub fn encrypt(order: usize, key: &[u8], input: &[u8], tape: &[u8], output: &mut [u8]) -> Answer
-    ensures { λ r. ⌜ outcome r (now (output .exit)) ≡ Encrypt-outcome order (now (key .entry)) (now (input .entry)) (now (tape .entry)) (now (output .entry)) ⌝ }
+    ensures { λ r. ⌜ outcome r (now (output .exit))
+        ≡ Encrypt-outcome order (now (key .entry)) (now (input .entry)) (now (tape .entry)) (now (output .entry)) ⌝ }
 {
     call(Direction::Forward, order, key, input, tape, output)
 }
 
 pub fn decrypt(order: usize, key: &[u8], input: &[u8], tape: &[u8], output: &mut [u8]) -> Answer
-    ensures { λ r. ⌜ outcome r (now (output .exit)) ≡ Decrypt-outcome order (now (key .entry)) (now (input .entry)) (now (tape .entry)) (now (output .entry)) ⌝ }
+    ensures { λ r. ⌜ outcome r (now (output .exit))
+        ≡ Decrypt-outcome order (now (key .entry)) (now (input .entry)) (now (tape .entry)) (now (output .entry)) ⌝ }
 {
     call(Direction::Inverse, order, key, input, tape, output)
 }

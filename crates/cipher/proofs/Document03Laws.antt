@@ -365,13 +365,11 @@ cipher-tape nk d =
     sizes (λ nk. D.cipher-tape nk d ≡ cipher-need nk d) (omega (arith, box-tape d, counted d)) (omega (arith, box-tape d, counted d)) (omega (arith, box-tape d, counted d)) nk
 
 -- on the layout of the routines, byte for byte
-pub encrypted-agrees : (nk d : ℕ) (k x ts : List ℕ) → D.key-words nk ≡ true → length k ≡ (d + 1) * (4 * nk) → length x ≡ (d + 1) * 16
+pub encrypted-agrees : (nk d : ℕ) (k x ts : List ℕ) → D.key-words nk ≡ true → length k ≡ suc d * (4 * nk) → length x ≡ suc d * 16
     → D.laid (suc d) (D.encrypted nk d (D.shared (suc d) k) (D.shared (suc d) x) ts) ≡ encrypted-laid nk d k x ts
 unfolding encrypted-laid
 encrypted-agrees nk d k x ts size lk lx =
-    let lk′ = rw add-one at lk in
-    let lx′ = rw add-one at lx in
     let hk = shared-parts d (4 * nk) k (omega arith) in
     let hx = shared-parts d 16 x (omega arith) in
-    rw (add-one, shared-turned d (4 * nk) k lk′, shared-turned d 16 x lx′, encrypted-turned nk ts size hk hx)
+    rw (shared-turned d (4 * nk) k lk, shared-turned d 16 x lx, encrypted-turned nk ts size hk hx)
     (laid-turned (encrypted-shared nk ts (some-words nk size) hk hx))

@@ -1,5 +1,6 @@
 // Answers of the library, as lines on standard output, with document 01's numbers and words.
 use shares::Answer;
+use shares::Count;
 use shares::Refusal;
 use text::hexadecimal;
 
@@ -28,19 +29,19 @@ fn print_refused_on_prepared(r: Refusal) {
     }
 }
 
-pub fn print_taken(n: usize) {
-    text::print_with(b"taken ", n);
+pub fn print_taken(count: Count) {
+    text::print_with(b"taken ", count.taken);
     text::print(b"\n");
 }
 
 // An answer, with the output where the call was carried through.
 pub fn print(a: Answer, output: &[u8]) {
     match a {
-        Answer::Taken(n) => {
+        Answer::Taken(count) => {
             text::print(b"output ");
             hexadecimal::print(output);
             text::print(b"\n");
-            print_taken(n)
+            print_taken(count)
         }
         Answer::Refused(r) => print_refused(r),
     }
@@ -57,7 +58,7 @@ pub fn print_on_prepared(a: Answer, output: &[u8]) {
 // What a call would answer. It has no output yet.
 pub fn print_foretold(a: Answer) {
     match a {
-        Answer::Taken(n) => print_taken(n),
+        Answer::Taken(count) => print_taken(count),
         Answer::Refused(r) => print_refused(r),
     }
 }

@@ -3,12 +3,12 @@ use crate::arguments;
 use crate::commands::Command;
 use crate::reading;
 use crate::routines;
-use crate::sheets;
+use crate::sheet;
 
 fn run_on(c: Command, order: usize, first: &[u8], second: &[u8], tape: &[u8]) {
     match c {
         Command::Read => reading::run(order, first, second, tape),
-        Command::Sheet => sheets::run(order, first, second, tape),
+        Command::Sheet => sheet::run(order, first, second, tape),
         _ => routines::run(c, order, first, second, tape),
     }
 }

@@ -130,7 +130,7 @@ fn print(nk: usize, d: usize)
 }
 
 fn run_on(order: usize, size: usize) {
-    if shares::answers::unserved(order) {
+    if !shares::answers::served(order) {
         return answers::print_refused(Refusal::Order);
     }
     match size {

@@ -158,7 +158,7 @@ pub fn run() {
     if !order.good {
         return;
     }
-    if shares::answers::unserved(order.value) {
+    if !shares::answers::served(order.value) {
         answers::print_refused(Refusal::Order);
         return;
     }

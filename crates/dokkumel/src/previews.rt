@@ -1,6 +1,8 @@
 // The command `preview`: the answer that a call would give, from ORDER and the lengths of its buffers. They are read in turn, and the first that
 // cannot be read ends the run.
 ghost use mathlib.Core.Path.{_≡_};
+ghost use mathlib.Core.List.{[]};
+ghost use Rattle.shares.specs.Outcome.{outcome};
 ghost use Rattle.dokkumel.specs.Previewed.{previewed};
 use crate::answers;
 use crate::arguments;
@@ -25,7 +27,7 @@ fn foretold(
     tape: usize,
     output: usize,
 ) -> Answer
-    ensures { λ r. ⌜ r ≡ previewed route order key input tape output ⌝ }
+    ensures { λ r. ⌜ outcome r [] ≡ previewed route order key input tape output ⌝ }
 {
     match route {
         Route::Encrypt => lengths::preview_encrypt(order, key, input, tape, output),

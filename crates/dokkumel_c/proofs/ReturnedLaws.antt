@@ -7,12 +7,12 @@ use native.Mathlib.Omega.{arith}
 use lib.Dec.{ltb}
 use lib.ListN.{length, drop, length-drop, drop-of-length-le}
 use borrow.Author.Tests.{ltb-true, ltb-false}
+use Rattle.shares.specs.declared.Count.{Count}
 use Rattle.shares.specs.declared.Answer.{Answer}
 use Rattle.shares.specs.declared.Answer.the-variants.{Taken, Refused}
-use Rattle.shares.specs.Outcome.{Outcome}
+use Rattle.shares.specs.Outcome.{Outcome, Test, answered, ended, settled}
 use Rattle.shares.specs.Calls.{unused}
-use Rattle.shares.proofs.OutcomeLaws.{ended, Ends}
-use Rattle.dokkumel_c.specs.Returned.{Returned, gives, returned, foretold, unused-start}
+use Rattle.dokkumel_c.specs.Returned.{Returned, gives, returned, unused-start}
 
 -- what a wrapper gives is its routine's outcome
 pub handed-on : (t : ℕ) {a b : Outcome} {x : Returned} → a ≡ b → x ≡ returned a t → x ≡ returned b t
@@ -20,22 +20,17 @@ handed-on t e g = g ∙ ap (λ (o : Outcome). returned o t) e
 
 -- ---- previews
 
--- what a preview's wrapper gives is the preview's answer
-pub foretold-on : (t : ℕ) {a b : Answer} {x : Returned} → a ≡ b → x ≡ foretold a t → x ≡ foretold b t
-foretold-on t e g = g ∙ ap (λ (y : Answer). foretold y t) e
-
--- a call that ends with a preview's answer returns the preview's status and count, from the same value behind `taken`
-ended-as-foretold : (p : Answer) (o made : List ℕ) (t : ℕ)
-    → (returned (ended p o made) t .status ≡ foretold p t .status) × (returned (ended p o made) t .taken ≡ foretold p t .taken)
-ended-as-foretold (Taken k) o made t = (refl, refl)
-ended-as-foretold (Refused r) o made t = (refl, refl)
-
-pub preview-returns : {p : Answer} {c : Outcome} {o q : List ℕ} (t : ℕ) {s k s′ k′ : ℕ} → Ends c p o
-    → gives s k q ≡ returned c t → gives s′ k′ [] ≡ foretold p t → (s ≡ s′) × (k ≡ k′)
-preview-returns {p} {c} {o} t e f g =
-    let h = ended-as-foretold p o (e .made) t in
-    let same = f ∙ ap (λ (x : Outcome). returned x t) (e .ends) in
-    (ap (λ (x : Returned). x .status) same ∙ h .0 ∙ sym (ap (λ (x : Returned). x .status) g), ap (λ (x : Returned). x .taken) same ∙ h .1 ∙ sym (ap (λ (x : Returned). x .taken) g))
+-- a call and its preview have the same tests, so they return the same status and the same count, from the same value behind `taken`
+pub preview-returns : (ts : List Test) (k : Count) (o made q : List ℕ) (t s n s′ n′ : ℕ)
+    → gives s n q ≡ returned (settled ts k o made) t → gives s′ n′ [] ≡ returned (settled ts k [] []) t → (s ≡ s′) × (n ≡ n′)
+unfolding settled
+preview-returns ts k o made q t s n s′ n′ f g = go (answered ts k) f g
+  where
+    go : (a : Answer) → gives s n q ≡ returned (ended a o made) t → gives s′ n′ [] ≡ returned (ended a [] []) t → (s ≡ s′) × (n ≡ n′)
+    go (Taken c) f g =
+        (ap (λ (x : Returned). x .status) f ∙ sym (ap (λ (x : Returned). x .status) g), ap (λ (x : Returned). x .taken) f ∙ sym (ap (λ (x : Returned). x .taken) g))
+    go (Refused r) f g =
+        (ap (λ (x : Returned). x .status) f ∙ sym (ap (λ (x : Returned). x .status) g), ap (λ (x : Returned). x .taken) f ∙ sym (ap (λ (x : Returned). x .taken) g))
 
 -- ---- unused tape
 

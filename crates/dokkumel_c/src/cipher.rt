@@ -12,10 +12,11 @@ pub extern "C" fn dokkumel_sbox(
     output: &mut [u8],
     taken: &mut usize,
 ) -> u32
-    ensures { λ r. ⌜ gives r (now (taken .exit)) (now (output .exit)) ≡ returned (Box-outcome order (now (input .entry)) (now (tape .entry)) (now (output .entry))) (now (taken .entry)) ⌝ }
+    ensures { λ r. ⌜ gives r (now (taken .exit)) (now (output .exit))
+        ≡ returned (Box-outcome order (now (input .entry)) (now (tape .entry)) (now (output .entry))) (now (taken .entry)) ⌝ }
 {
     let answer = sbox::masked_box(order, input, tape, output);
-    crate::status::give(answer, taken)
+    crate::status::returned(answer, taken)
 }
 
 #[no_mangle]
@@ -27,10 +28,11 @@ pub extern "C" fn dokkumel_encrypt(
     output: &mut [u8],
     taken: &mut usize,
 ) -> u32
-    ensures { λ r. ⌜ gives r (now (taken .exit)) (now (output .exit)) ≡ returned (Encrypt-outcome order (now (key .entry)) (now (input .entry)) (now (tape .entry)) (now (output .entry))) (now (taken .entry)) ⌝ }
+    ensures { λ r. ⌜ gives r (now (taken .exit)) (now (output .exit))
+        ≡ returned (Encrypt-outcome order (now (key .entry)) (now (input .entry)) (now (tape .entry)) (now (output .entry))) (now (taken .entry)) ⌝ }
 {
     let answer = aes::encrypt(order, key, input, tape, output);
-    crate::status::give(answer, taken)
+    crate::status::returned(answer, taken)
 }
 
 #[no_mangle]
@@ -42,8 +44,9 @@ pub extern "C" fn dokkumel_decrypt(
     output: &mut [u8],
     taken: &mut usize,
 ) -> u32
-    ensures { λ r. ⌜ gives r (now (taken .exit)) (now (output .exit)) ≡ returned (Decrypt-outcome order (now (key .entry)) (now (input .entry)) (now (tape .entry)) (now (output .entry))) (now (taken .entry)) ⌝ }
+    ensures { λ r. ⌜ gives r (now (taken .exit)) (now (output .exit))
+        ≡ returned (Decrypt-outcome order (now (key .entry)) (now (input .entry)) (now (tape .entry)) (now (output .entry))) (now (taken .entry)) ⌝ }
 {
     let answer = aes::decrypt(order, key, input, tape, output);
-    crate::status::give(answer, taken)
+    crate::status::returned(answer, taken)
 }

@@ -11,10 +11,11 @@ pub extern "C" fn dokkumel_prepare(
     output: &mut [u8],
     taken: &mut usize,
 ) -> u32
-    ensures { λ r. ⌜ gives r (now (taken .exit)) (now (output .exit)) ≡ returned (Prepare-outcome order (now (key .entry)) (now (tape .entry)) (now (output .entry))) (now (taken .entry)) ⌝ }
+    ensures { λ r. ⌜ gives r (now (taken .exit)) (now (output .exit))
+        ≡ returned (Prepare-outcome order (now (key .entry)) (now (tape .entry)) (now (output .entry))) (now (taken .entry)) ⌝ }
 {
     let answer = aes::prepare(order, key, tape, output);
-    crate::status::give(answer, taken)
+    crate::status::returned(answer, taken)
 }
 
 #[no_mangle]
@@ -26,8 +27,9 @@ pub extern "C" fn dokkumel_encrypt_prepared(
     output: &mut [u8],
     taken: &mut usize,
 ) -> u32
-    ensures { λ r. ⌜ gives r (now (taken .exit)) (now (output .exit)) ≡ returned (Encrypt-prepared-outcome order (now (prepared .entry)) (now (input .entry)) (now (tape .entry)) (now (output .entry))) (now (taken .entry)) ⌝ }
+    ensures { λ r. ⌜ gives r (now (taken .exit)) (now (output .exit))
+        ≡ returned (Encrypt-prepared-outcome order (now (prepared .entry)) (now (input .entry)) (now (tape .entry)) (now (output .entry))) (now (taken .entry)) ⌝ }
 {
     let answer = aes::encrypt_prepared(order, prepared, input, tape, output);
-    crate::status::give(answer, taken)
+    crate::status::returned(answer, taken)
 }

@@ -2,7 +2,7 @@
 ghost use mathlib.Core.Path.{_≡_};
 ghost use mathlib.Core.List.{[]};
 ghost use Rattle.lengths.specs.Previews.{Encrypt-preview, Decrypt-preview, Prepare-preview, Encrypt-prepared-preview};
-ghost use Rattle.dokkumel_c.specs.Returned.{gives, foretold};
+ghost use Rattle.dokkumel_c.specs.Returned.{gives, returned};
 
 #[no_mangle]
 pub extern "C" fn dokkumel_preview_encrypt(
@@ -13,10 +13,11 @@ pub extern "C" fn dokkumel_preview_encrypt(
     output_len: usize,
     taken: &mut usize,
 ) -> u32
-    ensures { λ r. ⌜ gives r (now (taken .exit)) [] ≡ foretold (Encrypt-preview order «key_len» «input_len» «tape_len» «output_len») (now (taken .entry)) ⌝ }
+    ensures { λ r. ⌜
+        gives r (now (taken .exit)) [] ≡ returned (Encrypt-preview order «key_len» «input_len» «tape_len» «output_len») (now (taken .entry)) ⌝ }
 {
     let answer = lengths::preview_encrypt(order, key_len, input_len, tape_len, output_len);
-    crate::status::give(answer, taken)
+    crate::status::returned(answer, taken)
 }
 
 #[no_mangle]
@@ -28,10 +29,11 @@ pub extern "C" fn dokkumel_preview_decrypt(
     output_len: usize,
     taken: &mut usize,
 ) -> u32
-    ensures { λ r. ⌜ gives r (now (taken .exit)) [] ≡ foretold (Decrypt-preview order «key_len» «input_len» «tape_len» «output_len») (now (taken .entry)) ⌝ }
+    ensures { λ r. ⌜
+        gives r (now (taken .exit)) [] ≡ returned (Decrypt-preview order «key_len» «input_len» «tape_len» «output_len») (now (taken .entry)) ⌝ }
 {
     let answer = lengths::preview_decrypt(order, key_len, input_len, tape_len, output_len);
-    crate::status::give(answer, taken)
+    crate::status::returned(answer, taken)
 }
 
 #[no_mangle]
@@ -42,10 +44,10 @@ pub extern "C" fn dokkumel_preview_prepare(
     output_len: usize,
     taken: &mut usize,
 ) -> u32
-    ensures { λ r. ⌜ gives r (now (taken .exit)) [] ≡ foretold (Prepare-preview order «key_len» «tape_len» «output_len») (now (taken .entry)) ⌝ }
+    ensures { λ r. ⌜ gives r (now (taken .exit)) [] ≡ returned (Prepare-preview order «key_len» «tape_len» «output_len») (now (taken .entry)) ⌝ }
 {
     let answer = lengths::preview_prepare(order, key_len, tape_len, output_len);
-    crate::status::give(answer, taken)
+    crate::status::returned(answer, taken)
 }
 
 #[no_mangle]
@@ -57,7 +59,8 @@ pub extern "C" fn dokkumel_preview_encrypt_prepared(
     output_len: usize,
     taken: &mut usize,
 ) -> u32
-    ensures { λ r. ⌜ gives r (now (taken .exit)) [] ≡ foretold (Encrypt-prepared-preview order «prepared_len» «input_len» «tape_len» «output_len») (now (taken .entry)) ⌝ }
+    ensures { λ r. ⌜ gives r (now (taken .exit)) []
+        ≡ returned (Encrypt-prepared-preview order «prepared_len» «input_len» «tape_len» «output_len») (now (taken .entry)) ⌝ }
 {
     let answer = lengths::preview_encrypt_prepared(
         order,
@@ -66,5 +69,5 @@ pub extern "C" fn dokkumel_preview_encrypt_prepared(
         tape_len,
         output_len,
     );
-    crate::status::give(answer, taken)
+    crate::status::returned(answer, taken)
 }

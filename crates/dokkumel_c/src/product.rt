@@ -13,10 +13,11 @@ pub extern "C" fn dokkumel_product(
     output: &mut [u8],
     taken: &mut usize,
 ) -> u32
-    ensures { λ r. ⌜ gives r (now (taken .exit)) (now (output .exit)) ≡ returned (Product-outcome order (now (left .entry)) (now (right .entry)) (now (tape .entry)) (now (output .entry))) (now (taken .entry)) ⌝ }
+    ensures { λ r. ⌜ gives r (now (taken .exit)) (now (output .exit))
+        ≡ returned (Product-outcome order (now (left .entry)) (now (right .entry)) (now (tape .entry)) (now (output .entry))) (now (taken .entry)) ⌝ }
 {
     let answer = masking::masked_product(order, left, right, tape, output);
-    crate::status::give(answer, taken)
+    crate::status::returned(answer, taken)
 }
 
 #[no_mangle]
@@ -28,10 +29,11 @@ pub extern "C" fn dokkumel_product_sheet(
     output: &mut [u8],
     taken: &mut usize,
 ) -> u32
-    ensures { λ r. ⌜ gives r (now (taken .exit)) (now (output .exit)) ≡ returned (Sheet-outcome order (now (left .entry)) (now (right .entry)) (now (tape .entry)) (now (output .entry))) (now (taken .entry)) ⌝ }
+    ensures { λ r. ⌜ gives r (now (taken .exit)) (now (output .exit))
+        ≡ returned (Sheet-outcome order (now (left .entry)) (now (right .entry)) (now (tape .entry)) (now (output .entry))) (now (taken .entry)) ⌝ }
 {
     let answer = sheets::product_sheet(order, left, right, tape, output);
-    crate::status::give(answer, taken)
+    crate::status::returned(answer, taken)
 }
 
 #[no_mangle]
@@ -44,8 +46,9 @@ pub extern "C" fn dokkumel_read_places(
     output: &mut [u8],
     taken: &mut usize,
 ) -> u32
-    ensures { λ r. ⌜ gives r (now (taken .exit)) (now (output .exit)) ≡ returned (Reading-outcome order (now (left .entry)) (now (right .entry)) (now (tape .entry)) (now (list .entry)) (now (output .entry))) (now (taken .entry)) ⌝ }
+    ensures { λ r. ⌜ gives r (now (taken .exit)) (now (output .exit))
+        ≡ returned (Reading-outcome order (now (left .entry)) (now (right .entry)) (now (tape .entry)) (now (list .entry)) (now (output .entry))) (now (taken .entry)) ⌝ }
 {
     let answer = sheets::read_places(order, left, right, tape, list, output);
-    crate::status::give(answer, taken)
+    crate::status::returned(answer, taken)
 }

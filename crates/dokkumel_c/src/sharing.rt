@@ -11,10 +11,11 @@ pub extern "C" fn dokkumel_split(
     output: &mut [u8],
     taken: &mut usize,
 ) -> u32
-    ensures { λ r. ⌜ gives r (now (taken .exit)) (now (output .exit)) ≡ returned (Split-outcome order (now (input .entry)) (now (tape .entry)) (now (output .entry))) (now (taken .entry)) ⌝ }
+    ensures { λ r. ⌜ gives r (now (taken .exit)) (now (output .exit))
+        ≡ returned (Split-outcome order (now (input .entry)) (now (tape .entry)) (now (output .entry))) (now (taken .entry)) ⌝ }
 {
     let answer = shares::split(order, input, tape, output);
-    crate::status::give(answer, taken)
+    crate::status::returned(answer, taken)
 }
 
 #[no_mangle]
@@ -24,10 +25,11 @@ pub extern "C" fn dokkumel_join(
     output: &mut [u8],
     taken: &mut usize,
 ) -> u32
-    ensures { λ r. ⌜ gives r (now (taken .exit)) (now (output .exit)) ≡ returned (Join-outcome order (now (input .entry)) (now (output .entry))) (now (taken .entry)) ⌝ }
+    ensures { λ r. ⌜ gives r (now (taken .exit)) (now (output .exit))
+        ≡ returned (Join-outcome order (now (input .entry)) (now (output .entry))) (now (taken .entry)) ⌝ }
 {
     let answer = shares::join(order, input, output);
-    crate::status::give(answer, taken)
+    crate::status::returned(answer, taken)
 }
 
 #[no_mangle]
@@ -38,8 +40,9 @@ pub extern "C" fn dokkumel_refresh(
     output: &mut [u8],
     taken: &mut usize,
 ) -> u32
-    ensures { λ r. ⌜ gives r (now (taken .exit)) (now (output .exit)) ≡ returned (Refresh-outcome order (now (input .entry)) (now (tape .entry)) (now (output .entry))) (now (taken .entry)) ⌝ }
+    ensures { λ r. ⌜ gives r (now (taken .exit)) (now (output .exit))
+        ≡ returned (Refresh-outcome order (now (input .entry)) (now (tape .entry)) (now (output .entry))) (now (taken .entry)) ⌝ }
 {
     let answer = shares::refresh(order, input, tape, output);
-    crate::status::give(answer, taken)
+    crate::status::returned(answer, taken)
 }

@@ -3,16 +3,17 @@ ghost use mathlib.Core.Path.{_≡_};
 ghost use Prim.Native.Nat.{ℕ};
 ghost use mathlib.Core.List.{List};
 ghost use Rattle.shares.specs.Outcome as Outcome;
-ghost use Rattle.dokkumel_c.specs.Returned.{gives, returned};
+ghost use Rattle.dokkumel_c.specs.Returned as Returned;
 use shares::Answer;
 
 // 0 and the count where the call was carried through; else the refusal's number, and taken stays.
-pub fn give(answer: Answer, taken: &mut usize) -> u32
-    ensures { λ r. ⌜ ((q : List ℕ) → gives r (now (taken .exit)) q ≡ returned (Outcome.outcome answer q) (now (taken .entry))) ⌝ }
+pub fn returned(answer: Answer, taken: &mut usize) -> u32
+    ensures { λ r. ⌜ ((q : List ℕ)
+        → Returned.gives r (now (taken .exit)) q ≡ Returned.returned (Outcome.outcome answer q) (now (taken .entry))) ⌝ }
 {
     match answer {
         Answer::Taken(k) => {
-            *taken = k;
+            *taken = k.taken;
             0
         }
         Answer::Refused(r) => shares::answers::number(r),

@@ -1,83 +1,95 @@
 -- What the lengths of a call say: the size of the key, and how much tape is wanted. Assumes nothing.
-use mathlib.Core.Path.{_≡_, refl, sym, ap, _∙_}
-use mathlib.Core.Bool.{Bool, true, false, cond}
-use Prim.Native.Nat.{ℕ, suc, _+_, _*_, _/_, _≤_, _<_}
+use mathlib.Core.Path.{_≡_, refl, sym, ap, ap₂, _∙_}
+use mathlib.Core.List.{[], _∷_}
+use Prim.Native.Nat.{ℕ, zero, suc, _+_, _*_, _-_, _/_, _≤_, _<_}
 use native.Mathlib.Nat.{mul-le-mul}
+use native.Mathlib.Numerals.{add-one}
 use native.Mathlib.Omega.{arith}
-use borrow.Author.Tests.{eqb-true, eq-eqb, ne-eqb}
-use lib.Dec.{eqb}
-use Rattle.shares.specs.Outcome.{share-length}
-use Rattle.shares.proofs.OutcomeLaws.{share-length-16, share-length-24, share-length-32, share-length-cases, share-length-is}
+use Rattle.shares.specs.Outcome.{one-of, share-length}
+use Rattle.shares.proofs.LengthsLaws.{one-of-here, one-of-next, one-of-is, one-of-each, one-of-le, none, also, share-length-16, share-length-24, share-length-32, share-length-cases, share-length-is}
 use Rattle.sbox.specs.Box.{box-need}
 use Rattle.sbox.proofs.BoxLaws.{box-need-bound}
 use Rattle.cipher.specs.Fips197.{rounds}
 use Rattle.cipher.specs.Cipher.{schedule-need, encrypted-with-need}
 use Rattle.cipher.proofs.NeedLaws.{schedule-need-4, schedule-need-6, schedule-need-8, encrypted-with-need-is}
-use Rattle.lengths.specs.Lengths.{key-words, prepared-length, prepared-words, boxes-of, Key-size, four, six, eight}
+use Rattle.lengths.specs.Lengths.{key-words, prepared-length, prepared-lengths, prepared-words, boxes-of, Key-size, four, six, eight}
 
 -- ---- the size of the key
 
 module _ (d l : ℕ) (some : 0 < key-words d l) where
-  key-share : 0 < share-length (d + 1) l
+  key-share : 0 < share-length (suc d) l
   unfolding key-words
   key-share = omega arith
 
   pub key-sized : Key-size (key-words d l)
   unfolding key-words
-  key-sized = share-length-cases (λ s. Key-size (s / 4)) four six eight (d + 1) l key-share
+  key-sized = share-length-cases (λ s. Key-size (s / 4)) four six eight (suc d) l key-share
 
-  pub key-length : l ≡ (d + 1) * (4 * key-words d l)
+  pub key-length : l ≡ suc d * (4 * key-words d l)
   unfolding key-words
   key-length =
-      let e : 4 * (share-length (d + 1) l / 4) ≡ share-length (d + 1) l = share-length-cases (λ s. 4 * (s / 4) ≡ s) refl refl refl (d + 1) l key-share in
-      share-length-is (d + 1) l key-share ∙ ap (λ (m : ℕ). (d + 1) * m) (sym e)
+      let e : 4 * (share-length (suc d) l / 4) ≡ share-length (suc d) l = share-length-cases (λ s. 4 * (s / 4) ≡ s) refl refl refl (suc d) l key-share in
+      share-length-is (suc d) l key-share ∙ ap (λ (m : ℕ). suc d * m) (sym e)
 
 -- key shares have the size of their key
-pub key-words-of : {nk : ℕ} (d : ℕ) → Key-size nk → key-words d ((d + 1) * (4 * nk)) ≡ nk
+pub key-words-of : {nk : ℕ} (d : ℕ) → Key-size nk → key-words d (suc d * (4 * nk)) ≡ nk
 unfolding key-words
-key-words-of d four = ap (λ (l : ℕ). l / 4) (share-length-16 (d + 1))
-key-words-of d six = ap (λ (l : ℕ). l / 4) (share-length-24 (d + 1) (omega arith))
-key-words-of d eight = ap (λ (l : ℕ). l / 4) (share-length-32 (d + 1) (omega arith))
+key-words-of d four = ap (λ (l : ℕ). l / 4) (share-length-16 (suc d))
+key-words-of d six = ap (λ (l : ℕ). l / 4) (share-length-24 (suc d) (omega arith))
+key-words-of d eight = ap (λ (l : ℕ). l / 4) (share-length-32 (suc d) (omega arith))
 
 -- the same from prepared keys
-module _ (d l : ℕ) where
-  pub prepared-sized : 0 < prepared-words d l → Key-size (prepared-words d l)
+module _ (d l : ℕ) (some : 0 < prepared-words d l) where
+  prepared-share : 0 < one-of prepared-lengths (suc d) l
   unfolding prepared-words
-  prepared-sized = go (eqb l (prepared-length 4 d)) (eqb l (prepared-length 6 d)) (eqb l (prepared-length 8 d))
-    where
-      go : (a b c : Bool) → 0 < cond a 4 (cond b 6 (cond c 8 0)) → Key-size (cond a 4 (cond b 6 (cond c 8 0)))
-      go true b c h = four
-      go false true c h = six
-      go false false true h = eight
-      go false false false h = absurd (omega arith)
+  prepared-share = omega arith
 
-  pub prepared-long : 0 < prepared-words d l → l ≡ prepared-length (prepared-words d l) d
+  pub prepared-sized : Key-size (prepared-words d l)
   unfolding prepared-words
-  prepared-long = go (eqb l (prepared-length 4 d)) refl (eqb l (prepared-length 6 d)) refl (eqb l (prepared-length 8 d)) refl
-    where
-      go : (a : Bool) → eqb l (prepared-length 4 d) ≡ a → (b : Bool) → eqb l (prepared-length 6 d) ≡ b → (c : Bool) → eqb l (prepared-length 8 d) ≡ c
-          → 0 < cond a 4 (cond b 6 (cond c 8 0)) → l ≡ prepared-length (cond a 4 (cond b 6 (cond c 8 0))) d
-      go true p b q c r h = eqb-true l (prepared-length 4 d) p
-      go false p true q c r h = eqb-true l (prepared-length 6 d) q
-      go false p false q true r h = eqb-true l (prepared-length 8 d) r
-      go false p false q false r h = absurd (omega arith)
+  prepared-sized = one-of-each {P = λ s. Key-size (s / 16 - 7)} (also four (also six (also eight none))) (suc d) l prepared-share
 
--- longer keys are prepared in a longer string
-longer : (d : ℕ) → (prepared-length 4 d < prepared-length 6 d) × (prepared-length 6 d < prepared-length 8 d)
-unfolding prepared-length rounds
-longer d = (omega arith, omega arith)
+  pub prepared-long : l ≡ prepared-length (prepared-words d l) d
+  unfolding prepared-words prepared-length rounds
+  prepared-long =
+      one-of-is prepared-lengths (suc d) l prepared-share
+      ∙ ap (λ (m : ℕ). suc d * m)
+      (one-of-each {P = λ s. s ≡ 16 * suc (s / 16 - 7 + 6)} (also {l = 176} refl (also {l = 208} refl (also {l = 240} refl none))) (suc d) l prepared-share)
+
+-- the code's own count, of a length l that was looked up
+module _ (d b l : ℕ) (found : l ≡ one-of prepared-lengths (d + 1) b) where
+  looked-up : l ≡ one-of prepared-lengths (suc d) b
+  looked-up = found ∙ ap (λ (n : ℕ). one-of prepared-lengths n b) (add-one d)
+
+  pub prepared-words-made : l / 16 - 7 ≡ prepared-words d b
+  unfolding prepared-words
+  prepared-words-made = ap (λ (n : ℕ). n / 16 - 7) looked-up
+
+  pub prepared-words-le : l / 16 - 7 ≤ 8
+  prepared-words-le =
+      let h : one-of prepared-lengths (suc d) b ≤ 240 = one-of-le (also (omega arith) (also (omega arith) (also (omega arith) none))) (suc d) b in
+      omega (arith, looked-up)
+
+  pub prepared-words-some : (l ≡ 0 → ⊥) → 7 ≤ l / 16
+  prepared-words-some h =
+      rw looked-up (one-of-each {P = λ s. 7 ≤ s / 16} (also {l = 176} (omega arith) (also {l = 208} (omega arith) (also {l = 240} (omega arith) none))) (suc d) b
+      (rw looked-up at (positive l h)))
+    where
+      positive : (n : ℕ) → (n ≡ 0 → ⊥) → 0 < n
+      positive zero h = absurd (h refl)
+      positive (suc n) h = omega arith
 
 -- keys that were prepared have the size of their key: the three lengths differ
 pub prepared-words-of : {nk : ℕ} (d : ℕ) → Key-size nk → prepared-words d (prepared-length nk d) ≡ nk
-unfolding prepared-words
-prepared-words-of d four = simp (eq-eqb (prepared-length 4 d) (prepared-length 4 d) refl)
+unfolding prepared-words prepared-length rounds
+prepared-words-of d four = ap (λ (l : ℕ). l / 16 - 7) (one-of-here 176 (208 ∷ 240 ∷ []) (suc d) (suc d * 176) refl)
 prepared-words-of d six =
-    let a : prepared-length 6 d ≡ prepared-length 4 d → ⊥ = λ e. omega (arith, longer d) in
-    simp (ne-eqb (prepared-length 6 d) (prepared-length 4 d) a, eq-eqb (prepared-length 6 d) (prepared-length 6 d) refl)
+    ap (λ (l : ℕ). l / 16 - 7)
+    (one-of-next 176 (208 ∷ 240 ∷ []) (suc d) (suc d * 208) (λ e. omega arith) ∙ one-of-here 208 (240 ∷ []) (suc d) (suc d * 208) refl)
 prepared-words-of d eight =
-    let a : prepared-length 8 d ≡ prepared-length 4 d → ⊥ = λ e. omega (arith, longer d) in
-    let b : prepared-length 8 d ≡ prepared-length 6 d → ⊥ = λ e. omega (arith, longer d) in
-    simp (ne-eqb (prepared-length 8 d) (prepared-length 4 d) a, ne-eqb (prepared-length 8 d) (prepared-length 6 d) b, eq-eqb (prepared-length 8 d) (prepared-length 8 d) refl)
+    ap (λ (l : ℕ). l / 16 - 7)
+    (one-of-next 176 (208 ∷ 240 ∷ []) (suc d) (suc d * 240) (λ e. omega arith)
+    ∙ one-of-next 208 (240 ∷ []) (suc d) (suc d * 240) (λ e. omega arith)
+    ∙ one-of-here 240 [] (suc d) (suc d * 240) refl)
 
 -- ---- how long and how much
 
@@ -89,7 +101,7 @@ size-bounds eight = (omega arith, omega arith)
 -- the length of prepared keys, as the code counts it
 pub prepared-length-is : (nk d : ℕ) → (d + 1) * (16 * (nk + 7)) ≡ prepared-length nk d
 unfolding prepared-length rounds
-prepared-length-is nk d = let e : 16 * (nk + 7) ≡ 16 * suc (nk + 6) = omega arith in ap (λ (m : ℕ). (d + 1) * m) e
+prepared-length-is nk d = let e : 16 * (nk + 7) ≡ 16 * suc (nk + 6) = omega arith in ap₂ _*_ (add-one d) e
 
 pub prepared-length-bound : (nk d : ℕ) → d ≤ 8 → nk ≤ 8 → (d + 1) * (16 * (nk + 7)) ≤ 2160
 prepared-length-bound nk d h g =

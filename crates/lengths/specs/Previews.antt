@@ -1,78 +1,51 @@
--- Asking beforehand: the answer of a call from its order and the lengths of its buffers alone, and what it means that a preview is right. Document 02,
--- wish 4, decides; the tests and their order are document 01's. Assumes nothing: these are definitions.
-use mathlib.Core.Path.{_≡_}
-use mathlib.Core.Bool.{Bool, true}
-use mathlib.Core.List.{List}
-use Prim.Native.Nat.{ℕ, _+_, _*_}
+-- The tests of a call of AES on the lengths of its buffers, and asking beforehand: the answer of a call from these alone. Document 01's table decides
+-- the tests and their order; for prepared keys document 02, wish 1, and for previews wish 4. Assumes nothing: these are definitions.
+use mathlib.Core.List.{List, [], _∷_}
+use Prim.Native.Nat.{ℕ, suc, _*_}
 use lib.Dec.{ltb, eqb}
-use lib.ListN.{length}
-use Rattle.shares.specs.declared.Answer.{Answer}
-use Rattle.shares.specs.Outcome.{Outcome, outcome, answered}
+use Rattle.shares.specs.declared.Refusal.the-variants.{Order, Key, Input, Output, Tape}
+use Rattle.shares.specs.Outcome.{Outcome, Test, test, took, settled, served, reaches}
 use Rattle.cipher.specs.Cipher.{schedule-need, encrypted-with-need, cipher-need}
-use Rattle.lengths.specs.declared.Job.{Job}
-use Rattle.lengths.specs.declared.Job.the-variants.{Single, Preparation, Prepared}
 use Rattle.lengths.specs.Lengths.{key-words, prepared-length, prepared-words}
 
--- ---- what a job asks of the lengths
+-- ---- the tests
 
--- how many words the key has, by the length of its shares or of its prepared keys; 0 where that fits none
-abbrev pub words-of : Job → (d length : ℕ) → ℕ
-words-of Single d l = key-words d l
-words-of Preparation d l = key-words d l
-words-of Prepared d l = prepared-words d l
+-- the order, and then whether the key's length gave some words
+abbrev pub Keyed : (d nk : ℕ) → List Test → List Test
+Keyed d nk ts = test Order (served d) ∷ test Key (ltb 0 nk) ∷ ts
 
--- whether the input's length fits; a preparation has no input
-abbrev pub input-fits : Job → (d length : ℕ) → Bool
-input-fits Single d l = eqb l ((d + 1) * 16)
-input-fits Preparation d l = true
-input-fits Prepared d l = eqb l ((d + 1) * 16)
+-- of a block: an input and an output of n · 16 bytes, and the tape
+abbrev pub Block-tests : (need d input tape output : ℕ) → List Test
+Block-tests n d x t o = test Input (eqb x (suc d * 16)) ∷ test Output (eqb o (suc d * 16)) ∷ test Tape (reaches t n) ∷ []
 
--- how long the output must be
-abbrev pub output-length : Job → (nk d : ℕ) → ℕ
-output-length Single nk d = (d + 1) * 16
-output-length Preparation nk d = prepared-length nk d
-output-length Prepared nk d = (d + 1) * 16
+-- encryption and decryption by a single call: key shares, and a block
+abbrev pub Single-tests : (order key input tape output : ℕ) → List Test
+Single-tests d k x t o = Keyed d (key-words d k) (Block-tests (cipher-need (key-words d k) d) d x t o)
 
--- how much tape it takes
-abbrev pub need-of : Job → (nk d : ℕ) → ℕ
-need-of Single nk d = cipher-need nk d
-need-of Preparation nk d = schedule-need nk d
-need-of Prepared nk d = encrypted-with-need nk d
+-- preparation: key shares, and an output of n · 16 · (Nr + 1) bytes; it has no input that could be refused with 3
+abbrev pub Preparation-tests : (order key tape output : ℕ) → List Test
+Preparation-tests d k t o =
+    Keyed d (key-words d k)
+    (test Output (eqb o (prepared-length (key-words d k) d)) ∷ test Tape (reaches t (schedule-need (key-words d k) d)) ∷ [])
 
--- the answer: the first of 1 to 5 that applies, or the tape that the call takes
-abbrev pub Job-answer : Job → (order key input tape output : ℕ) → Answer
-Job-answer job d k x t o =
-    answered d (ltb 0 (words-of job d k)) (input-fits job d x) (eqb o (output-length job (words-of job d k) d)) t (need-of job (words-of job d k) d)
+-- encryption from prepared keys, and a block
+abbrev pub Prepared-tests : (order prepared input tape output : ℕ) → List Test
+Prepared-tests d k x t o = Keyed d (prepared-words d k) (Block-tests (encrypted-with-need (prepared-words d k) d) d x t o)
 
--- ---- the previews: each has the order, and the lengths of its call's buffers
+-- ---- the previews: each has the order, and the lengths of its call's buffers; there is no output that could change
 
 -- encryption in a single call, from key shares
-abbrev pub Encrypt-preview : (order key input tape output : ℕ) → Answer
-Encrypt-preview d k x t o = Job-answer Single d k x t o
+unfoldable pub Encrypt-preview : (order key input tape output : ℕ) → Outcome
+Encrypt-preview d k x t o = settled (Single-tests d k x t o) (took (cipher-need (key-words d k) d)) [] []
 
 -- decryption: the lengths, the refusals and the count of encryption
-abbrev pub Decrypt-preview : (order key input tape output : ℕ) → Answer
-Decrypt-preview d k x t o = Job-answer Single d k x t o
+unfoldable pub Decrypt-preview : (order key input tape output : ℕ) → Outcome
+Decrypt-preview d k x t o = settled (Single-tests d k x t o) (took (cipher-need (key-words d k) d)) [] []
 
--- preparation: it has no input, and the length 0 that stands for one is never looked at
-abbrev pub Prepare-preview : (order key tape output : ℕ) → Answer
-Prepare-preview d k t o = Job-answer Preparation d k 0 t o
+-- preparation
+unfoldable pub Prepare-preview : (order key tape output : ℕ) → Outcome
+Prepare-preview d k t o = settled (Preparation-tests d k t o) (took (schedule-need (key-words d k) d)) [] []
 
 -- encryption from prepared keys
-abbrev pub Encrypt-prepared-preview : (order prepared input tape output : ℕ) → Answer
-Encrypt-prepared-preview d k x t o = Job-answer Prepared d k x t o
-
--- ---- when a preview is right
-
--- The preview foretells the call: whatever bytes the buffers hold, an answer of the call is the preview's for their lengths. `q` is the output
--- afterwards, and the equation with `call` is the call's contract
-abbrev pub Foretells : ((order key input tape output : ℕ) → Answer) → (call : (order : ℕ) (key input tape output : List ℕ) → Outcome) → Type 0
-Foretells preview call =
-    (d : ℕ) (k x ts o q : List ℕ) (a : Answer) → outcome a q ≡ call d k x ts o → a ≡ preview d (length k) (length x) (length ts) (length o)
-
--- No answer depends on what a buffer holds: two calls whose order and buffer lengths agree give the same answer, whatever the bytes
-abbrev pub Answers-by-length : (call : (order : ℕ) (key input tape output : List ℕ) → Outcome) → Type 0
-Answers-by-length call =
-    (d : ℕ) (k k′ x x′ ts ts′ o o′ q q′ : List ℕ) (a a′ : Answer)
-    → length k ≡ length k′ → length x ≡ length x′ → length ts ≡ length ts′ → length o ≡ length o′
-    → outcome a q ≡ call d k x ts o → outcome a′ q′ ≡ call d k′ x′ ts′ o′ → a ≡ a′
+unfoldable pub Encrypt-prepared-preview : (order prepared input tape output : ℕ) → Outcome
+Encrypt-prepared-preview d k x t o = settled (Prepared-tests d k x t o) (took (encrypted-with-need (prepared-words d k) d)) [] []

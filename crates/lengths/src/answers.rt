@@ -3,82 +3,86 @@
 // Lengths are any numbers: they are compared, and nothing is computed with them.
 ghost use mathlib.Core.Path.{_≡_};
 ghost use Prim.Native.Nat.{_≤_};
-ghost use Rattle.lengths.specs.Lengths.{Key-size};
-ghost use Rattle.lengths.specs.Previews.{words-of, input-fits, output-length, need-of, Job-answer};
-use crate::Job;
+ghost use Rattle.shares.specs.Outcome.{answered, took};
+ghost use Rattle.cipher.specs.Cipher.{schedule-need, encrypted-with-need, cipher-need};
+ghost use Rattle.lengths.specs.Lengths.{key-words, prepared-words};
+ghost use Rattle.lengths.specs.Previews.{Block-tests, Single-tests, Preparation-tests, Prepared-tests};
 use crate::needs;
 use crate::sizes;
 use shares::Answer;
+use shares::Count;
 use shares::Refusal;
 
-// How many words the key has, by the length of its shares or of its prepared keys; 0 where that fits none.
-fn words(job: Job, d: usize, length: usize) -> usize
+// The tests of a block that draws so many bytes, behind those of the order and the key.
+fn block_answer(need: usize, d: usize, input: usize, tape: usize, output: usize) -> Answer
     requires { ⌜ d ≤ 8 ⌝ }
-    ensures { λ r. ⌜ (r ≡ words-of job d length) × (r ≤ 8) ⌝ }
+    ensures { λ r. ⌜ r ≡ answered (Block-tests need d input tape output) (took need) ⌝ }
 {
-    match job {
-        Job::Prepared => sizes::prepared_words(d, length),
-        _ => sizes::key_words(d, length),
+    let size = (d + 1) * 16;
+    if input != size {
+        return Answer::Refused(Refusal::Input);
     }
+    if output != size {
+        return Answer::Refused(Refusal::Output);
+    }
+    if tape < need {
+        return Answer::Refused(Refusal::Tape);
+    }
+    Answer::Taken(Count { taken: need })
 }
 
-// Whether the input's length fits. A preparation has no input.
-fn input_fits(job: Job, d: usize, length: usize) -> bool
-    requires { ⌜ d ≤ 8 ⌝ }
-    ensures { λ r. ⌜ r ≡ input-fits job d length ⌝ }
+// The tests of an encryption or decryption by a single call.
+pub fn single_answer(order: usize, key: usize, input: usize, tape: usize, output: usize) -> Answer
+    ensures { λ r. ⌜ r ≡ answered (Single-tests order key input tape output) (took (cipher-need (key-words order key) order)) ⌝ }
 {
-    match job {
-        Job::Preparation => true,
-        _ => length == (d + 1) * 16,
+    if !shares::answers::served(order) {
+        return Answer::Refused(Refusal::Order);
     }
+    let nk = sizes::key_words(order, key);
+    if nk == 0 {
+        return Answer::Refused(Refusal::Key);
+    }
+    block_answer(needs::cipher_need(nk, order), order, input, tape, output)
 }
 
-// How long the output must be.
-fn output_length(job: Job, nk: usize, d: usize) -> usize
-    requires { ⌜ (d ≤ 8) × (nk ≤ 8) ⌝ }
-    ensures { λ r. ⌜ r ≡ output-length job nk d ⌝ }
-{
-    match job {
-        Job::Preparation => sizes::prepared_length(nk, d),
-        _ => (d + 1) * 16,
-    }
-}
-
-// How many tape bytes the call draws.
-fn need(job: Job, nk: usize, d: usize) -> usize
-    requires { ⌜ (d ≤ 8) × Key-size nk ⌝ }
-    ensures { λ r. ⌜ r ≡ need-of job nk d ⌝ }
-{
-    match job {
-        Job::Single => needs::cipher_need(nk, d),
-        Job::Preparation => needs::schedule_need(nk, d),
-        Job::Prepared => needs::rounds_need(nk, d),
-    }
-}
-
-// Refusals 1 to 5, the first that applies, or the tape bytes that the call will take.
-pub fn answer(
-    job: Job,
+// The tests of an encryption from prepared keys.
+pub fn prepared_answer(
     order: usize,
-    key: usize,
+    prepared: usize,
     input: usize,
     tape: usize,
     output: usize,
 ) -> Answer
-    ensures { λ r. ⌜ r ≡ Job-answer job order key input tape output ⌝ }
+    ensures { λ r. ⌜ r
+        ≡ answered (Prepared-tests order prepared input tape output) (took (encrypted-with-need (prepared-words order prepared) order)) ⌝ }
 {
-    if shares::answers::unserved(order) {
+    if !shares::answers::served(order) {
         return Answer::Refused(Refusal::Order);
     }
-    let nk = words(job, order, key);
+    let nk = sizes::prepared_words(order, prepared);
     if nk == 0 {
         return Answer::Refused(Refusal::Key);
     }
-    shares::answers::checked(
-        true,
-        input_fits(job, order, input),
-        output == output_length(job, nk, order),
-        tape,
-        need(job, nk, order),
-    )
+    block_answer(needs::rounds_need(nk, order), order, input, tape, output)
+}
+
+// The tests of a preparation. It has no input.
+pub fn preparation_answer(order: usize, key: usize, tape: usize, output: usize) -> Answer
+    ensures { λ r. ⌜ r ≡ answered (Preparation-tests order key tape output) (took (schedule-need (key-words order key) order)) ⌝ }
+{
+    if !shares::answers::served(order) {
+        return Answer::Refused(Refusal::Order);
+    }
+    let nk = sizes::key_words(order, key);
+    if nk == 0 {
+        return Answer::Refused(Refusal::Key);
+    }
+    if output != sizes::prepared_length(nk, order) {
+        return Answer::Refused(Refusal::Output);
+    }
+    let need = needs::schedule_need(nk, order);
+    if tape < need {
+        return Answer::Refused(Refusal::Tape);
+    }
+    Answer::Taken(Count { taken: need })
 }

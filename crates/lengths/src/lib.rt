@@ -12,10 +12,3 @@ pub use previews::preview_decrypt;
 pub use previews::preview_encrypt;
 pub use previews::preview_encrypt_prepared;
 pub use previews::preview_prepare;
-
-// What a call is to do, as far as lengths tell: a block from key shares, either way; the preparation of round keys; a block from prepared keys.
-pub enum Job {
-    Single,
-    Preparation,
-    Prepared,
-}

@@ -1,8 +1,9 @@
 // Asking beforehand: the answer that a call would give, from the order and the lengths of its buffers alone. Document 02, wish 4, decides.
 // Any lengths may be asked about, up to the largest number there is.
 ghost use mathlib.Core.Path.{_≡_};
+ghost use mathlib.Core.List.{[]};
+ghost use Rattle.shares.specs.Outcome.{outcome};
 ghost use Rattle.lengths.specs.Previews.{Encrypt-preview, Decrypt-preview, Prepare-preview, Encrypt-prepared-preview};
-use crate::Job;
 use crate::answers;
 use shares::Answer;
 
@@ -13,9 +14,9 @@ pub fn preview_encrypt(
     tape_len: usize,
     output_len: usize,
 ) -> Answer
-    ensures { λ r. ⌜ r ≡ Encrypt-preview order «key_len» «input_len» «tape_len» «output_len» ⌝ }
+    ensures { λ r. ⌜ outcome r [] ≡ Encrypt-preview order «key_len» «input_len» «tape_len» «output_len» ⌝ }
 {
-    answers::answer(Job::Single, order, key_len, input_len, tape_len, output_len)
+    answers::single_answer(order, key_len, input_len, tape_len, output_len)
 }
 
 pub fn preview_decrypt(
@@ -25,16 +26,16 @@ pub fn preview_decrypt(
     tape_len: usize,
     output_len: usize,
 ) -> Answer
-    ensures { λ r. ⌜ r ≡ Decrypt-preview order «key_len» «input_len» «tape_len» «output_len» ⌝ }
+    ensures { λ r. ⌜ outcome r [] ≡ Decrypt-preview order «key_len» «input_len» «tape_len» «output_len» ⌝ }
 {
-    answers::answer(Job::Single, order, key_len, input_len, tape_len, output_len)
+    answers::single_answer(order, key_len, input_len, tape_len, output_len)
 }
 
 // It has no input, and so never answers Refused(Input).
 pub fn preview_prepare(order: usize, key_len: usize, tape_len: usize, output_len: usize) -> Answer
-    ensures { λ r. ⌜ r ≡ Prepare-preview order «key_len» «tape_len» «output_len» ⌝ }
+    ensures { λ r. ⌜ outcome r [] ≡ Prepare-preview order «key_len» «tape_len» «output_len» ⌝ }
 {
-    answers::answer(Job::Preparation, order, key_len, 0, tape_len, output_len)
+    answers::preparation_answer(order, key_len, tape_len, output_len)
 }
 
 pub fn preview_encrypt_prepared(
@@ -44,14 +45,7 @@ pub fn preview_encrypt_prepared(
     tape_len: usize,
     output_len: usize,
 ) -> Answer
-    ensures { λ r. ⌜ r ≡ Encrypt-prepared-preview order «prepared_len» «input_len» «tape_len» «output_len» ⌝ }
+    ensures { λ r. ⌜ outcome r [] ≡ Encrypt-prepared-preview order «prepared_len» «input_len» «tape_len» «output_len» ⌝ }
 {
-    answers::answer(
-        Job::Prepared,
-        order,
-        prepared_len,
-        input_len,
-        tape_len,
-        output_len,
-    )
+    answers::prepared_answer(order, prepared_len, input_len, tape_len, output_len)
 }

@@ -24,14 +24,9 @@ pub fn prepared_words(d: usize, length: usize) -> usize
     requires { ⌜ d ≤ 8 ⌝ }
     ensures { λ r. ⌜ (r ≡ prepared-words d length) × (r ≤ 8) ⌝ }
 {
-    if length == prepared_length(4, d) {
-        return 4;
+    let l = shares::answers::one_of(&[176, 208, 240], d + 1, length);
+    if l == 0 {
+        return 0;
     }
-    if length == prepared_length(6, d) {
-        return 6;
-    }
-    if length == prepared_length(8, d) {
-        return 8;
-    }
-    0
+    l / 16 - 7
 }

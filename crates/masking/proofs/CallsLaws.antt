@@ -1,37 +1,48 @@
--- What the product's own tests say: that the factors fit, and the check of lengths and tape. Assumes nothing.
-use mathlib.Core.Path.{_≡_, sym, ap₂, _∙_}
-use mathlib.Core.Bool.{Bool, true}
-use mathlib.Core.List.{List}
-use Prim.Native.Nat.{ℕ, _+_, _≤_}
+-- What the tests of a call on two factors say, and what is known where they let it through. Assumes nothing.
+use mathlib.Core.Path.{_≡_, refl, sym, ap, _∙_}
+use mathlib.Core.Bool.{Bool, true, false, cond}
+use mathlib.Core.List.{_∷_, []}
+use Prim.Native.Nat.{ℕ, suc, _≤_}
 use borrow.Author.Tests.{eqb-true}
 use lib.Dec.{eqb}
-use lib.ListN.{length}
-use Rattle.xor.proofs.Tests.{and-true}
+use Rattle.xor.proofs.Tests.{and-true, true-false}
 use Rattle.isw.specs.Place.{product-need}
+use Rattle.shares.specs.declared.Refusal.the-variants.{Order, Input, Output, Tape}
+use Rattle.shares.specs.declared.Count.{Count}
 use Rattle.shares.specs.declared.Answer.{Answer}
 use Rattle.shares.specs.declared.Answer.the-variants.{Taken}
-use Rattle.shares.specs.Outcome.{check}
-use Rattle.shares.proofs.OutcomeLaws.{check-taken}
-use Rattle.masking.specs.Calls.{two-fit}
+use Rattle.shares.specs.Outcome.{test, answered, took, served, reaches}
+use Rattle.shares.proofs.OutcomeLaws.{Passed, _and_, answered-here, answered-taken, served-bounds, reaches-le}
+use Rattle.masking.specs.Calls.{two-fit, Factor-tests}
 
--- ---- two factors
-
-pub two-fit-lengths : (d : ℕ) (a b : List ℕ) → two-fit d a b ≡ true → (length a ≡ d + 1) × (length b ≡ d + 1)
+pub two-fit-lengths : (d a b : ℕ) → two-fit d a b ≡ true → (a ≡ suc d) × (b ≡ suc d)
 unfolding two-fit
 two-fit-lengths d a b e =
-    let h = and-true (eqb (length a) (d + 1)) (eqb (length b) (d + 1)) e in
-    (eqb-true (length a) (d + 1) (h .0), eqb-true (length b) (d + 1) (h .1))
+    let h = and-true (eqb a (suc d)) (eqb b (suc d)) e in
+    (eqb-true a (suc d) (h .0), eqb-true b (suc d) (h .1))
 
-module _ (d : ℕ) (a b : List ℕ) (room : Bool) (tape : ℕ) (answer : Answer) where
-  -- the answer of the code's check, in the definitions' terms
-  pub product-checked : {fits : Bool} {need : ℕ} → fits ≡ two-fit d a b → need ≡ product-need d → answer ≡ check true fits room tape need
-      → answer ≡ check true (two-fit d a b) room tape (product-need d)
-  product-checked e f g = g ∙ ap₂ (λ (i : Bool) (n : ℕ). check true i room tape n) e f
+-- the room counts only where the order is served
+pub factors-answered : (room′ room d a b t o : ℕ) (k : Count) (q : Answer) → (served d ≡ true → room′ ≡ room)
+    → q ≡ answered (Factor-tests room′ d a b t o) k → q ≡ answered (Factor-tests room d a b t o) k
+factors-answered room′ room d a b t o k q same e = e ∙ go (served d) refl
+  where
+    go : (u : Bool) → served d ≡ u → answered (Factor-tests room′ d a b t o) k ≡ answered (Factor-tests room d a b t o) k
+    go true p = ap (λ (n : ℕ). answered (Factor-tests n d a b t o) k) (same p)
+    go false p = sym (answered-here Order (served d) _ k p) ∙ answered-here Order (served d) _ k p
 
-  -- what is known where it lets a call through
-  pub product-taken : (k : ℕ) → answer ≡ check true (two-fit d a b) room tape (product-need d) → answer ≡ Taken k
-      → (length a ≡ d + 1) × (length b ≡ d + 1) × (room ≡ true) × (product-need d ≤ tape) × (k ≡ product-need d)
-  product-taken k e f =
-      let h = check-taken true (two-fit d a b) room tape (product-need d) k (sym e ∙ f) in
-      let l = two-fit-lengths d a b (h .1) in
-      (l .0, l .1, h .2, h .3, h .4)
+-- a call that is let through
+pub record Factors-through (room d a b t o : ℕ) : Type 0 where
+  pub order : d ≤ 8
+  pub left : a ≡ suc d
+  pub right : b ≡ suc d
+  pub output : o ≡ room
+  pub drawn : product-need d ≤ t
+
+pub factors-passed : (room d a b t o : ℕ) → Passed (Factor-tests room d a b t o) → Factors-through room d a b t o
+factors-passed room d a b t o (u and i and r and n and p) =
+    let f = two-fit-lengths d a b i in
+    record { order = served-bounds d u .1; left = f .0; right = f .1; output = eqb-true o room r; drawn = reaches-le t (product-need d) n }
+
+pub factors-through : (room d a b t o : ℕ) (q : Answer) (k c : Count) → q ≡ answered (Factor-tests room d a b t o) k → q ≡ Taken c
+    → Factors-through room d a b t o
+factors-through room d a b t o q k c e f = factors-passed room d a b t o (answered-taken _ k c (sym e ∙ f) .0)

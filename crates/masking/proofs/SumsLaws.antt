@@ -188,13 +188,13 @@ module _ (n : ℕ) (a b ts : List ℕ) where
 
 -- ---- after all pairs, the sums are the product's shares: the last share has no row of its own
 
-pub sums-all : (d : ℕ) (a b ts o : List ℕ) → length o ≡ d + 1 → Sums (d + 1) a b ts d o → o ≡ product times d a b ts
+pub sums-all : (d : ℕ) (a b ts o : List ℕ) → length o ≡ suc d → Sums (suc d) a b ts d o → o ≡ product times d a b ts
 sums-all d a b ts o l g =
-    let f : ℕ → ℕ = λ k. row times (at a) (at b) (drawn (d + 1) ts) k d in
-    sym (rw l at (tab-at o)) ∙ tab-cong (at o) f (d + 1) each ∙ product-rows d a b ts
+    let f : ℕ → ℕ = λ k. row times (at a) (at b) (drawn (suc d) ts) k d in
+    sym (rw l at (tab-at o)) ∙ tab-cong (at o) f (suc d) each ∙ product-rows d a b ts
   where
-    each : (k : ℕ) → k < d + 1 → at o k ≡ row times (at a) (at b) (drawn (d + 1) ts) k d
+    each : (k : ℕ) → k < suc d → at o k ≡ row times (at a) (at b) (drawn (suc d) ts) k d
     each k h = elim (decLt k d) [
-      | yes y ↦ let e : d + 1 - 1 ≡ d = omega arith in rw e at (g .whole k y)
+      | yes y ↦ let e : suc d - 1 ≡ d = omega arith in rw e at (g .whole k y)
       | no y ↦ let e : k ≡ d = omega arith in rw e (g .begun d (omega arith) (omega arith))
     ]

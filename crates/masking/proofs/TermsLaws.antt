@@ -60,26 +60,26 @@ module _ (n : ℕ) (a b ts : List ℕ) where
 
 -- ---- a product of order d
 
--- it draws what d + 1 rows of pairs do
-pub product-need-rows : (d : ℕ) → product-need d ≡ before-row (d + 1) (d + 1)
+-- it draws what the rows of its pairs do, n of them
+pub product-need-rows : (d : ℕ) → product-need d ≡ before-row (suc d) (suc d)
 unfolding product-need
-product-need-rows d = rw add-one refl
+product-need-rows d = refl
 
 -- the last share has no row of its own
-pub product-need-last : (d : ℕ) → product-need d ≡ before-row (d + 1) d
-product-need-last d = omega (arith, product-need-rows d, before-row-next (d + 1) d)
+pub product-need-last : (d : ℕ) → product-need d ≡ before-row (suc d) d
+product-need-last d = let e = before-row-next (suc d) d in omega (arith, product-need-rows d, rw add-one at e)
 
 -- row i of its pairs, whose draws stand on the tape from k on: what it counts, and that it fits
-module _ (d i k : ℕ) (h : i < d) (e : k ≡ before-row (d + 1) i) where
-  pub row-counts : (i + 1 ≤ d) × (k + (d - i) ≡ before-row (d + 1) (i + 1))
-      × (before-row (d + 1) (i + 1) ≤ product-need d) × (d + 1 ≡ i + 1 + (d - i))
+module _ (d i k : ℕ) (h : i < d) (e : k ≡ before-row (suc d) i) where
+  pub row-counts : (i + 1 ≤ d) × (k + (d - i) ≡ before-row (suc d) (i + 1))
+      × (before-row (suc d) (i + 1) ≤ product-need d) × (suc d ≡ i + 1 + (d - i))
   row-counts =
-      let x = before-row-next (d + 1) i in
-      let u = before-row-le (d + 1) i (omega arith) in
+      let x = before-row-next (suc d) i in
+      let u = before-row-le (suc d) i (omega arith) in
       let z = product-need-rows d in
       (omega arith, omega arith, omega arith, omega arith)
 
-  pub row-fits : (a b ts s : List ℕ) → d ≤ 8 → length a ≡ d + 1 → length b ≡ d + 1 → product-need d ≤ length ts → length s ≡ d + 1
+  pub row-fits : (a b ts s : List ℕ) → d ≤ 8 → length a ≡ suc d → length b ≡ suc d → product-need d ≤ length ts → length s ≡ suc d
       → (0 < d - i) × (i + 1 + (d - i) ≤ 9) × (i + 1 + (d - i) ≤ length a) × (i + 1 + (d - i) ≤ length b)
       × (d - i ≤ length (take (length ts - k) (drop k ts))) × (i + 1 + (d - i) ≤ length s)
   row-fits a b ts s few la lb lt ls =
@@ -94,9 +94,9 @@ module _ (d i k : ℕ) (h : i < d) (e : k ≡ before-row (d + 1) i) where
       (omega arith, rw (length-part-rest y (5 * k)) (omega arith))
 
 -- its shares are the last sums of the rows
-pub product-rows : (d : ℕ) (a b ts : List ℕ) → tab (λ i. row times (at a) (at b) (drawn (d + 1) ts) i d) (d + 1) ≡ product times d a b ts
+pub product-rows : (d : ℕ) (a b ts : List ℕ) → tab (λ i. row times (at a) (at b) (drawn (suc d) ts) i d) (suc d) ≡ product times d a b ts
 unfolding product outputs value byte
-product-rows d a b ts = rw add-one (sym (map-tab (byte times (at a) (at b) (drawn (suc d) ts)) (λ i. part i d) (suc d)))
+product-rows d a b ts = sym (map-tab (byte times (at a) (at b) (drawn (suc d) ts)) (λ i. part i d) (suc d))
 
 -- the second half of the pairs of a row, on the first half's bytes
 pub backs-right : (a b tape : List ℕ) (i w : ℕ) (h o q x : List ℕ) → h ≡ front (tab (halves a b tape i) w) o

@@ -1,19 +1,25 @@
 -- The outcome of the product on every input, refusals included. Document 01, "Turned-down calls", decides.
 -- Assumes nothing: these are definitions.
-use mathlib.Core.Bool.{Bool, true, not, cond, _&&_}
+use mathlib.Core.Bool.{Bool, _&&_}
 use mathlib.Core.List.{List, [], _∷_}
-use Prim.Native.Nat.{ℕ, _+_}
-use lib.Dec.{ltb, eqb}
+use Prim.Native.Nat.{ℕ, suc}
+use lib.Dec.{eqb}
 use lib.ListN.{length}
 use Rattle.gf256.specs.Field.{times}
-use Rattle.isw.specs.Place.{place-count, product-need, sheet, product, listed}
-use Rattle.shares.specs.Outcome.{Outcome, done, refused, unserved, guarded}
+use Rattle.isw.specs.Place.{product-need, product}
+use Rattle.shares.specs.declared.Refusal.the-variants.{Order, Input, Output, Tape}
+use Rattle.shares.specs.Outcome.{Outcome, Test, test, took, settled, served, reaches}
 
--- both factors have n = d + 1 shares
-unfoldable pub two-fit : (d : ℕ) (left right : List ℕ) → Bool
-two-fit d a b = eqb (length a) (d + 1) && eqb (length b) (d + 1)
+-- both factors have n shares
+unfoldable pub two-fit : (d left right : ℕ) → Bool
+two-fit d a b = eqb a (suc d) && eqb b (suc d)
+
+-- the tests of a call on two factors that draws what a product draws, with an output of `room` bytes; on the lengths of its buffers
+abbrev pub Factor-tests : (room order left right tape output : ℕ) → List Test
+Factor-tests n d a b t o =
+    test Order (served d) ∷ test Input (two-fit d a b) ∷ test Output (eqb o n) ∷ test Tape (reaches t (product-need d)) ∷ []
 
 -- product: an output of n bytes
 unfoldable pub Product-outcome : (order : ℕ) (left right tape output : List ℕ) → Outcome
 Product-outcome d a b ts o =
-    guarded d true (two-fit d a b) (eqb (length o) (d + 1)) (length ts) (product-need d) o (product times d a b ts)
+    settled (Factor-tests (suc d) d (length a) (length b) (length ts) (length o)) (took (product-need d)) o (product times d a b ts)

@@ -1,17 +1,18 @@
 // The masked product of two bytes in shares: each share's running sum takes in its terms pair by pair, in the order of the draws.
 // Document 01, "The steps over shares", decides.
 ghost use mathlib.Core.Path.{_≡_};
-ghost use Prim.Native.Nat.{_+_, _≤_, _<_};
+ghost use Prim.Native.Nat.{suc, _+_, _≤_, _<_};
 ghost use lib.ListN.{length};
 ghost use Rattle.gf256.specs.Field as Field;
 ghost use Rattle.gf256.specs.Tables.{Tables};
 ghost use Rattle.isw.specs.Place as Place;
-ghost use Rattle.shares.specs.Outcome.{outcome};
+ghost use Rattle.shares.specs.Outcome.{outcome, answered, took};
 ghost use Rattle.masking.specs.Steps;
-ghost use Rattle.masking.specs.Calls.{two-fit, Product-outcome};
+ghost use Rattle.masking.specs.Calls.{two-fit, Factor-tests, Product-outcome};
 use gf256::Antilogs;
 use gf256::Logs;
 use shares::Answer;
+use shares::Count;
 use shares::Refusal;
 
 // How many bytes a product of order d draws.
@@ -22,15 +23,42 @@ pub fn product_need(d: usize) -> usize
     d * (d + 1) / 2
 }
 
-// Whether both factors have n shares.
-pub fn two_fit(d: usize, a: &[u8], b: &[u8]) -> bool
+// Whether both factors have n shares, by their lengths.
+fn two_fit(d: usize, left: usize, right: usize) -> bool
     requires { ⌜ d ≤ 8 ⌝ }
-    ensures { λ r. ⌜ r ≡ two-fit d (now (a .entry)) (now (b .entry)) ⌝ }
+    ensures { λ r. ⌜ r ≡ two-fit d left right ⌝ }
 {
-    if a.len() == d + 1 {
-        return b.len() == d + 1;
+    if left == d + 1 {
+        return right == d + 1;
     }
     false
+}
+
+// The tests of a call on two factors with an output of room bytes, on the lengths of its buffers.
+pub fn factors_answer(
+    room: usize,
+    order: usize,
+    left: usize,
+    right: usize,
+    tape: usize,
+    output: usize,
+) -> Answer
+    ensures { λ r. ⌜ r ≡ answered (Factor-tests room order left right tape output) (took (Place.product-need order)) ⌝ }
+{
+    if !shares::answers::served(order) {
+        return Answer::Refused(Refusal::Order);
+    }
+    if !two_fit(order, left, right) {
+        return Answer::Refused(Refusal::Input);
+    }
+    if output != room {
+        return Answer::Refused(Refusal::Output);
+    }
+    let need = product_need(order);
+    if tape < need {
+        return Answer::Refused(Refusal::Tape);
+    }
+    Answer::Taken(Count { taken: need })
 }
 
 // Row i of the pairs and its running sums, on rows of its own. Answers with how many bytes were drawn.
@@ -81,8 +109,8 @@ fn take_pairs(
     tape: &[u8],
     sums: &mut [u8],
 ) -> usize
-    requires { ⌜ (d ≤ 8) × (length (now a) ≡ d + 1) × (length (now b) ≡ d + 1)
-        × (Place.product-need d ≤ length (now tape)) × (now sums ≡ Steps.starts (now a) (now b) (d + 1))
+    requires { ⌜ (d ≤ 8) × (length (now a) ≡ suc d) × (length (now b) ≡ suc d)
+        × (Place.product-need d ≤ length (now tape)) × (now sums ≡ Steps.starts (now a) (now b) (suc d))
         × Tables (now logs) (now antilogs) ⌝ }
     ensures { λ k. ⌜ (k ≡ Place.product-need d)
         × (now (sums .exit) ≡ Place.product Field.times d (now (a .entry)) (now (b .entry)) (now (tape .entry))) ⌝ }
@@ -104,7 +132,7 @@ pub fn product_core(
     tape: &[u8],
     output: &mut [u8],
 ) -> usize
-    requires { ⌜ (d ≤ 8) × (length (now output) ≡ d + 1) × (length (now a) ≡ d + 1) × (length (now b) ≡ d + 1)
+    requires { ⌜ (d ≤ 8) × (length (now output) ≡ suc d) × (length (now a) ≡ suc d) × (length (now b) ≡ suc d)
         × (Place.product-need d ≤ length (now tape)) × Tables (now logs) (now antilogs) ⌝ }
     ensures { λ k. ⌜ (k ≡ Place.product-need d)
         × (now (output .exit) ≡ Place.product Field.times d (now (a .entry)) (now (b .entry)) (now (tape .entry))) ⌝ }
@@ -123,21 +151,20 @@ pub fn masked_product(
     ensures { λ r. ⌜ outcome r (now (output .exit))
         ≡ Product-outcome order (now (left .entry)) (now (right .entry)) (now (tape .entry)) (now (output .entry)) ⌝ }
 {
-    if shares::answers::unserved(order) {
-        return Answer::Refused(Refusal::Order);
-    }
-    let fits = two_fit(order, left, right);
-    let answer = shares::answers::checked(
-        true,
-        fits,
-        output.len() == order + 1,
+    let answer = factors_answer(
+        shares::answers::share_count(order),
+        order,
+        left.len(),
+        right.len(),
         tape.len(),
-        product_need(order),
+        output.len(),
     );
     let Answer::Taken(_) = answer else {
         return answer;
     };
     let logs = gf256::logs();
     let antilogs = gf256::antilogs();
-    Answer::Taken(product_core(&logs, &antilogs, order, left, right, tape, output))
+    Answer::Taken(Count {
+        taken: product_core(&logs, &antilogs, order, left, right, tape, output),
+    })
 }

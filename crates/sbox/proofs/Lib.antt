@@ -1,4 +1,3 @@
 pub mod BoxLaws
-pub mod CallsLaws
 pub mod EachLaws
 pub mod StageLaws

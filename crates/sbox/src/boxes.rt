@@ -1,10 +1,12 @@
 // The masked S-box: power 254, then the affine map over shares. The masked inverse S-box: the inverse affine map over shares, then power 254.
 ghost use mathlib.Core.Path.{_≡_};
+ghost use mathlib.Core.Bool.{true};
 ghost use mathlib.Core.List.{map};
-ghost use Prim.Native.Nat.{_+_, _%_, _≤_, _<_};
+ghost use Prim.Native.Nat.{suc, _%_, _≤_, _<_};
 ghost use lib.ListN.{length};
 ghost use Rattle.gf256.specs.Directions.{affine-of, constant-of};
 ghost use Rattle.gf256.specs.Tables.{Tables};
+ghost use Rattle.shares.specs.Outcome as Outcome;
 ghost use Rattle.shares.specs.Outcome.{outcome};
 ghost use Rattle.sbox.specs.Box;
 ghost use Rattle.sbox.specs.Calls.{Box-outcome};
@@ -12,7 +14,7 @@ use gf256::Antilogs;
 use gf256::Direction;
 use gf256::Logs;
 use shares::Answer;
-use shares::Refusal;
+use shares::Count;
 
 // The affine map of each share. The shares are taken by a list of their numbers: a compiler that does not know them for neighbours has no use for
 // a register with two of them in it, whose shifts would bring bits of the one into the other's byte (the rule at the head of masking's steps.rt).
@@ -63,7 +65,8 @@ fn box_core(
     tape: &[u8],
     output: &mut [u8],
 ) -> usize
-    requires { ⌜ (d ≤ 8) × (length (now x) ≡ d + 1) × (length (now output) ≡ d + 1) × (Box.box-need d ≤ length (now tape)) × Tables (now logs) (now antilogs) ⌝ }
+    requires { ⌜ (d ≤ 8) × (length (now x) ≡ suc d) × (length (now output) ≡ suc d) × (Box.box-need d ≤ length (now tape))
+        × Tables (now logs) (now antilogs) ⌝ }
     ensures { λ r. ⌜ (r ≡ Box.box-need d) × (now (output .exit) ≡ Box.box d (now (x .entry)) (now (tape .entry))) ⌝ }
 {
     let drawn = crate::powers::power_core(logs, antilogs, d, x, tape, output);
@@ -80,7 +83,8 @@ fn inverse_box_core(
     tape: &[u8],
     output: &mut [u8],
 ) -> usize
-    requires { ⌜ (d ≤ 8) × (length (now x) ≡ d + 1) × (length (now output) ≡ d + 1) × (Box.box-need d ≤ length (now tape)) × Tables (now logs) (now antilogs) ⌝ }
+    requires { ⌜ (d ≤ 8) × (length (now x) ≡ suc d) × (length (now output) ≡ suc d) × (Box.box-need d ≤ length (now tape))
+        × Tables (now logs) (now antilogs) ⌝ }
     ensures { λ r. ⌜ (r ≡ Box.box-need d) × (now (output .exit) ≡ Box.inverse-box d (now (x .entry)) (now (tape .entry))) ⌝ }
 {
     affine_shares(Direction::Inverse, d, x);
@@ -97,7 +101,8 @@ pub fn box_by(
     tape: &[u8],
     output: &mut [u8],
 ) -> usize
-    requires { ⌜ (d ≤ 8) × (length (now x) ≡ d + 1) × (length (now output) ≡ d + 1) × (Box.box-need d ≤ length (now tape)) × Tables (now logs) (now antilogs) ⌝ }
+    requires { ⌜ (d ≤ 8) × (length (now x) ≡ suc d) × (length (now output) ≡ suc d) × (Box.box-need d ≤ length (now tape))
+        × Tables (now logs) (now antilogs) ⌝ }
     ensures { λ r. ⌜ (r ≡ Box.box-need d) × (now (output .exit) ≡ Box.box-of which d (now (x .entry)) (now (tape .entry))) ⌝ }
 {
     match which {
@@ -106,24 +111,33 @@ pub fn box_by(
     }
 }
 
-pub fn masked_box(order: usize, input: &[u8], tape: &[u8], output: &mut [u8]) -> Answer
-    ensures { λ r. ⌜ outcome r (now (output .exit)) ≡ Box-outcome order (now (input .entry)) (now (tape .entry)) (now (output .entry)) ⌝ }
+// How many bytes a call at that order draws, and 0 where the order is not served.
+fn call_need(order: usize) -> usize
+    ensures { λ r. ⌜ (Outcome.served order ≡ true → r ≡ Box.box-need order) ⌝ }
 {
-    if shares::answers::unserved(order) {
-        return Answer::Refused(Refusal::Order);
+    if shares::answers::served(order) {
+        return box_need(order);
     }
-    let n = order + 1;
-    let answer = shares::answers::checked(
-        true,
-        input.len() == n,
-        output.len() == n,
+    0
+}
+
+pub fn masked_box(order: usize, input: &[u8], tape: &[u8], output: &mut [u8]) -> Answer
+    ensures { λ r. ⌜ outcome r (now (output .exit))
+        ≡ Box-outcome order (now (input .entry)) (now (tape .entry)) (now (output .entry)) ⌝ }
+{
+    let answer = shares::refreshing::byte_answer(
+        call_need(order),
+        order,
+        input.len(),
         tape.len(),
-        box_need(order),
+        output.len(),
     );
     let Answer::Taken(_) = answer else {
         return answer;
     };
     let logs = gf256::logs();
     let antilogs = gf256::antilogs();
-    Answer::Taken(box_core(&logs, &antilogs, order, input, tape, output))
+    Answer::Taken(Count {
+        taken: box_core(&logs, &antilogs, order, input, tape, output),
+    })
 }

@@ -2,7 +2,7 @@
 // Each step gets the part of the tape from its first draw on, and the count rises by what it drew.
 ghost use mathlib.Core.Path.{_≡_};
 ghost use mathlib.Core.List.{map};
-ghost use Prim.Native.Nat.{_+_, _≤_};
+ghost use Prim.Native.Nat.{suc, _+_, _≤_};
 ghost use lib.ListN.{length};
 ghost use Rattle.gf256.specs.Exponents.{raised-to};
 ghost use Rattle.gf256.specs.Tables.{Tables};
@@ -25,7 +25,8 @@ fn raise(logs: &Logs, antilogs: &Antilogs, which: Exponent, x: &[u8], z: &mut [u
 
 // z = x², refreshed. Answers with how many bytes were drawn.
 fn make_z(logs: &Logs, antilogs: &Antilogs, d: usize, x: &[u8], tape: &[u8], z: &mut [u8]) -> usize
-    requires { ⌜ (d ≤ 8) × (length (now x) ≡ d + 1) × (length (now z) ≡ d + 1) × (Refresh.refresh-need d ≤ length (now tape)) × Tables (now logs) (now antilogs) ⌝ }
+    requires { ⌜ (d ≤ 8) × (length (now x) ≡ suc d) × (length (now z) ≡ suc d) × (Refresh.refresh-need d ≤ length (now tape))
+        × Tables (now logs) (now antilogs) ⌝ }
     ensures { λ r. ⌜ (r ≡ Refresh.refresh-need d) × (now (z .exit) ≡ Box.stage-z d (now (x .entry)) (now (tape .entry))) ⌝ }
 {
     raise(logs, antilogs, Exponent::Two, x, z);
@@ -34,7 +35,8 @@ fn make_z(logs: &Logs, antilogs: &Antilogs, d: usize, x: &[u8], tape: &[u8], z: 
 
 // w = y⁴, refreshed. Answers with how many bytes were drawn.
 fn make_w(logs: &Logs, antilogs: &Antilogs, d: usize, y: &[u8], tape: &[u8], w: &mut [u8]) -> usize
-    requires { ⌜ (d ≤ 8) × (length (now y) ≡ d + 1) × (length (now w) ≡ d + 1) × (Refresh.refresh-need d ≤ length (now tape)) × Tables (now logs) (now antilogs) ⌝ }
+    requires { ⌜ (d ≤ 8) × (length (now y) ≡ suc d) × (length (now w) ≡ suc d) × (Refresh.refresh-need d ≤ length (now tape))
+        × Tables (now logs) (now antilogs) ⌝ }
     ensures { λ r. ⌜ (r ≡ Refresh.refresh-need d) × (now (w .exit) ≡ Box.stage-w d (now (y .entry)) (now (tape .entry))) ⌝ }
 {
     raise(logs, antilogs, Exponent::Four, y, w);
@@ -51,8 +53,10 @@ fn first_stage(
     z: &mut [u8],
     y: &mut [u8],
 ) -> usize
-    requires { ⌜ (d ≤ 8) × (length (now x) ≡ d + 1) × (length (now z) ≡ d + 1) × (length (now y) ≡ d + 1) × (Box.stage-need d ≤ length (now tape)) × Tables (now logs) (now antilogs) ⌝ }
-    ensures { λ r. ⌜ (r ≡ Box.stage-need d) × (now (z .exit) ≡ Box.stage-z d (now (x .entry)) (now (tape .entry))) × (now (y .exit) ≡ Box.stage-y d (now (x .entry)) (now (tape .entry))) ⌝ }
+    requires { ⌜ (d ≤ 8) × (length (now x) ≡ suc d) × (length (now z) ≡ suc d) × (length (now y) ≡ suc d) × (Box.stage-need d ≤ length (now tape))
+        × Tables (now logs) (now antilogs) ⌝ }
+    ensures { λ r. ⌜ (r ≡ Box.stage-need d) × (now (z .exit) ≡ Box.stage-z d (now (x .entry)) (now (tape .entry)))
+        × (now (y .exit) ≡ Box.stage-y d (now (x .entry)) (now (tape .entry))) ⌝ }
 {
     let drawn = make_z(logs, antilogs, d, x, tape, z);
     drawn + masking::product::product_core(logs, antilogs, d, z, x, &tape[drawn..], y)
@@ -68,8 +72,10 @@ fn second_stage(
     w: &mut [u8],
     v: &mut [u8],
 ) -> usize
-    requires { ⌜ (d ≤ 8) × (length (now y) ≡ d + 1) × (length (now w) ≡ d + 1) × (length (now v) ≡ d + 1) × (Box.stage-need d ≤ length (now tape)) × Tables (now logs) (now antilogs) ⌝ }
-    ensures { λ r. ⌜ (r ≡ Box.stage-need d) × (now (w .exit) ≡ Box.stage-w d (now (y .entry)) (now (tape .entry))) × (now (v .exit) ≡ Box.stage-v d (now (y .entry)) (now (tape .entry))) ⌝ }
+    requires { ⌜ (d ≤ 8) × (length (now y) ≡ suc d) × (length (now w) ≡ suc d) × (length (now v) ≡ suc d) × (Box.stage-need d ≤ length (now tape))
+        × Tables (now logs) (now antilogs) ⌝ }
+    ensures { λ r. ⌜ (r ≡ Box.stage-need d) × (now (w .exit) ≡ Box.stage-w d (now (y .entry)) (now (tape .entry)))
+        × (now (v .exit) ≡ Box.stage-v d (now (y .entry)) (now (tape .entry))) ⌝ }
 {
     let drawn = make_w(logs, antilogs, d, y, tape, w);
     drawn + masking::product::product_core(logs, antilogs, d, y, w, &tape[drawn..], v)
@@ -87,8 +93,10 @@ fn last_stage(
     y: &mut [u8],
     output: &mut [u8],
 ) -> usize
-    requires { ⌜ (d ≤ 8) × (length (now v) ≡ d + 1) × (length (now w) ≡ d + 1) × (length (now z) ≡ d + 1) × (length (now y) ≡ d + 1) × (length (now output) ≡ d + 1) × (Place.product-need d + Place.product-need d ≤ length (now tape)) × Tables (now logs) (now antilogs) ⌝ }
-    ensures { λ r. ⌜ (r ≡ Place.product-need d + Place.product-need d) × (now (output .exit) ≡ Box.stage-last d (now (v .entry)) (now (w .entry)) (now (z .entry)) (now (tape .entry))) ⌝ }
+    requires { ⌜ (d ≤ 8) × (length (now v) ≡ suc d) × (length (now w) ≡ suc d) × (length (now z) ≡ suc d) × (length (now y) ≡ suc d)
+        × (length (now output) ≡ suc d) × (Place.product-need d + Place.product-need d ≤ length (now tape)) × Tables (now logs) (now antilogs) ⌝ }
+    ensures { λ r. ⌜ (r ≡ Place.product-need d + Place.product-need d)
+        × (now (output .exit) ≡ Box.stage-last d (now (v .entry)) (now (w .entry)) (now (z .entry)) (now (tape .entry))) ⌝ }
 {
     raise(logs, antilogs, Exponent::Sixteen, v, y);
     let drawn = masking::product::product_core(logs, antilogs, d, y, w, tape, v);
@@ -108,7 +116,8 @@ fn power_with(
     v: &mut [u8],
     output: &mut [u8],
 ) -> usize
-    requires { ⌜ (d ≤ 8) × (length (now x) ≡ d + 1) × (length (now z) ≡ d + 1) × (length (now w) ≡ d + 1) × (length (now y) ≡ d + 1) × (length (now v) ≡ d + 1) × (length (now output) ≡ d + 1) × (Box.box-need d ≤ length (now tape)) × Tables (now logs) (now antilogs) ⌝ }
+    requires { ⌜ (d ≤ 8) × (length (now x) ≡ suc d) × (length (now z) ≡ suc d) × (length (now w) ≡ suc d) × (length (now y) ≡ suc d)
+        × (length (now v) ≡ suc d) × (length (now output) ≡ suc d) × (Box.box-need d ≤ length (now tape)) × Tables (now logs) (now antilogs) ⌝ }
     ensures { λ r. ⌜ (r ≡ Box.box-need d) × (now (output .exit) ≡ Box.power-254 d (now (x .entry)) (now (tape .entry))) ⌝ }
 {
     let first = first_stage(logs, antilogs, d, x, tape, z, y);
@@ -125,7 +134,8 @@ pub fn power_core(
     tape: &[u8],
     output: &mut [u8],
 ) -> usize
-    requires { ⌜ (d ≤ 8) × (length (now x) ≡ d + 1) × (length (now output) ≡ d + 1) × (Box.box-need d ≤ length (now tape)) × Tables (now logs) (now antilogs) ⌝ }
+    requires { ⌜ (d ≤ 8) × (length (now x) ≡ suc d) × (length (now output) ≡ suc d) × (Box.box-need d ≤ length (now tape))
+        × Tables (now logs) (now antilogs) ⌝ }
     ensures { λ r. ⌜ (r ≡ Box.box-need d) × (now (output .exit) ≡ Box.power-254 d (now (x .entry)) (now (tape .entry))) ⌝ }
 {
     let mut z = [0u8; 9];

@@ -1,54 +1,53 @@
-// The tests that decide a call's answer, on numbers alone. They stand here once, in the order of document 01's table.
+// What the tests of a call ask, on numbers alone. Each routine's own tests stand beside it, in the order of document 01's table.
 ghost use mathlib.Core.Path.{_≡_};
-ghost use Prim.Native.Nat.{_≤_};
+ghost use mathlib.Core.Bool.{true};
+ghost use Prim.Native.Nat.{suc, _≤_};
 ghost use Rattle.shares.specs.Outcome;
-use crate::Answer;
 use crate::Refusal;
 
-// Whether the order is none of 1 to 8. It is tested on the raw number, before order + 1 is formed.
-pub fn unserved(order: usize) -> bool
-    ensures { λ r. ⌜ r ≡ Outcome.unserved order ⌝ }
+// Whether the order is one of 1 to 8. It is tested on the raw number, before order + 1 is formed.
+pub fn served(order: usize) -> bool
+    ensures { λ r. ⌜ r ≡ Outcome.served order ⌝ }
 {
-    if order == 0 {
-        return true;
+    if 0 < order {
+        return order < 9;
     }
-    8 < order
+    false
 }
 
-// Refusals 2 to 5, the first that applies, or the tape bytes that the call will take.
-pub fn checked(key: bool, input: bool, room: bool, tape: usize, need: usize) -> Answer
-    ensures { λ r. ⌜ r ≡ Outcome.check key input room tape need ⌝ }
+// How many shares a byte has at that order, and 0 where the order is not served.
+pub fn share_count(order: usize) -> usize
+    ensures { λ r. ⌜ (Outcome.served order ≡ true → r ≡ suc order) × (r ≤ 9) ⌝ }
 {
-    if !key {
-        return Answer::Refused(Refusal::Key);
-    }
-    if !input {
-        return Answer::Refused(Refusal::Input);
-    }
-    if !room {
-        return Answer::Refused(Refusal::Output);
-    }
-    if tape < need {
-        return Answer::Refused(Refusal::Tape);
-    }
-    Answer::Taken(need)
-}
-
-// The length of one of n shares in a string of that length, if it is 16, 24 or 32; else 0.
-pub fn share_length(n: usize, length: usize) -> usize
-    requires { ⌜ n ≤ 9 ⌝ }
-    ensures { λ r. ⌜ r ≡ Outcome.share-length n length ⌝ }
-{
-    if length == n * 16 {
-        return 16;
-    }
-    if length == n * 24 {
-        return 24;
-    }
-    if length == n * 32 {
-        return 32;
+    if served(order) {
+        return order + 1;
     }
     0
+}
+
+// Which of the listed lengths one of n shares has, in a string of so many bytes; 0 where it is none of them.
+pub fn one_of(lengths: &[u8], n: usize, bytes: usize) -> usize
+    requires { ⌜ n ≤ 9 ⌝ }
+    ensures { λ r. ⌜ r ≡ Outcome.one-of (now (lengths .entry)) n bytes ⌝ }
+{
+    let mut found: usize = 0;
+    let mut k = lengths.len();
+    while 0 < k {
+        k -= 1;
+        let l = lengths[k] as usize;
+        if bytes == n * l {
+            found = l;
+        }
+    }
+    found
+}
+
+// The length of one of n shares in a string of that many bytes, if it is 16, 24 or 32; else 0.
+pub fn share_length(n: usize, bytes: usize) -> usize
+    requires { ⌜ n ≤ 9 ⌝ }
+    ensures { λ r. ⌜ r ≡ Outcome.share-length n bytes ⌝ }
+{
+    one_of(&[16, 24, 32], n, bytes)
 }
 
 // Document 01's number of a refusal.

@@ -26,8 +26,13 @@ pub enum Refusal {
     Place,
 }
 
-// A completed call answers with the number of tape bytes taken, a refused one with its refusal.
+// What a completed call counts.
+pub struct Count {
+    pub taken: usize, // tape bytes
+}
+
+// A completed call answers with what it counted, a refused one with its refusal.
 pub enum Answer {
-    Taken(usize),
+    Taken(Count),
     Refused(Refusal),
 }

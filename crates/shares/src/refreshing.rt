@@ -3,12 +3,14 @@ ghost use mathlib.Core.Path.{_≡_};
 ghost use Prim.Native.Nat.{_+_, _≤_, _<_};
 ghost use lib.ListN.{length};
 ghost use Rattle.xor.specs.Lists.{at, tab};
-ghost use Rattle.shares.specs.Outcome.{outcome};
+ghost use Rattle.shares.specs.Outcome.{outcome, answered, took};
 ghost use Rattle.shares.specs.Refresh;
 ghost use Rattle.shares.specs.Writes.{front};
-ghost use Rattle.shares.specs.Calls.{Refresh-outcome};
+ghost use Rattle.shares.specs.Calls.{Byte-tests, Refresh-outcome};
 use crate::Answer;
+use crate::Count;
 use crate::Refusal;
+use crate::answers;
 
 // How many bytes a refresh draws.
 pub fn refresh_need(d: usize) -> usize
@@ -49,23 +51,41 @@ pub fn refresh_core(d: usize, tape: &[u8], x: &mut [u8]) -> usize
     refresh_with(d, tape, &mut first, x)
 }
 
-pub fn refresh(order: usize, input: &[u8], tape: &[u8], output: &mut [u8]) -> Answer
-    ensures { λ r. ⌜ outcome r (now (output .exit)) ≡ Refresh-outcome order (now (input .entry)) (now (tape .entry)) (now (output .entry)) ⌝ }
+// The tests of a call that draws so many bytes for the shares of one byte, on the lengths of its buffers.
+pub fn byte_answer(need: usize, order: usize, input: usize, tape: usize, output: usize) -> Answer
+    ensures { λ r. ⌜ r ≡ answered (Byte-tests need order input tape output) (took need) ⌝ }
 {
-    if crate::answers::unserved(order) {
+    if !answers::served(order) {
         return Answer::Refused(Refusal::Order);
     }
-    let n = order + 1;
-    let answer = crate::answers::checked(
-        true,
-        input.len() == n,
-        output.len() == n,
-        tape.len(),
+    if input != order + 1 {
+        return Answer::Refused(Refusal::Input);
+    }
+    if output != order + 1 {
+        return Answer::Refused(Refusal::Output);
+    }
+    if tape < need {
+        return Answer::Refused(Refusal::Tape);
+    }
+    Answer::Taken(Count { taken: need })
+}
+
+pub fn refresh(order: usize, input: &[u8], tape: &[u8], output: &mut [u8]) -> Answer
+    ensures { λ r. ⌜ outcome r (now (output .exit))
+        ≡ Refresh-outcome order (now (input .entry)) (now (tape .entry)) (now (output .entry)) ⌝ }
+{
+    let answer = byte_answer(
         refresh_need(order),
+        order,
+        input.len(),
+        tape.len(),
+        output.len(),
     );
     let Answer::Taken(_) = answer else {
         return answer;
     };
     crate::bytes::put(input, output);
-    Answer::Taken(refresh_core(order, tape, output))
+    Answer::Taken(Count {
+        taken: refresh_core(order, tape, output),
+    })
 }

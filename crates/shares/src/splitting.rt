@@ -1,19 +1,23 @@
 // Splitting: a string becomes n shares that join to it.
 ghost use mathlib.Core.Path.{_≡_};
-ghost use Prim.Native.Nat.{_+_, _*_, _≤_};
+ghost use Prim.Native.Nat.{suc, _*_, _≤_};
 ghost use lib.ListN.{length};
 ghost use Rattle.xor.specs.Sums.{xors};
 ghost use Rattle.shares.specs.Writes.{front};
-ghost use Rattle.shares.specs.Outcome.{outcome};
-ghost use Rattle.shares.specs.Strings.{joined-string, parts, laid, split};
-ghost use Rattle.shares.specs.Calls.{Split-outcome};
+ghost use Rattle.shares.specs.Outcome.{outcome, answered, took, share-length};
+ghost use Rattle.shares.specs.Strings.{joined-string, parts, laid, split, split-need};
+ghost use Rattle.shares.specs.Calls.{Split-tests, Split-outcome};
 use crate::Answer;
+use crate::Count;
 use crate::Refusal;
+use crate::answers;
 
 // Share 0 over the front of out: the input with the first d parts of the tape XORed in. Answers with how many bytes were drawn.
 fn first_share(d: usize, input: &[u8], tape: &[u8], out: &mut [u8]) -> usize
     requires { ⌜ (d * length (now input) ≤ length (now tape)) × (length (now input) ≤ length (now out)) ⌝ }
-    ensures { λ r. ⌜ (r ≡ d * length (now (input .entry))) × (now (out .exit) ≡ front (xors (now (input .entry)) (joined-string (parts d (length (now (input .entry))) (now (tape .entry))))) (now (out .entry))) ⌝ }
+    ensures { λ r. ⌜ (r ≡ d * length (now (input .entry)))
+        × (now (out .exit)
+        ≡ front (xors (now (input .entry)) (joined-string (parts d (length (now (input .entry))) (now (tape .entry))))) (now (out .entry))) ⌝ }
 {
     let l = input.len();
     crate::bytes::put(input, out);
@@ -22,8 +26,9 @@ fn first_share(d: usize, input: &[u8], tape: &[u8], out: &mut [u8]) -> usize
 
 // Share 0, and behind it the drawn bytes as shares 1 to d. Answers with how many bytes were drawn.
 fn split_core(d: usize, input: &[u8], tape: &[u8], output: &mut [u8]) -> usize
-    requires { ⌜ (d * length (now input) ≤ length (now tape)) × (length (now output) ≡ (d + 1) * length (now input)) ⌝ }
-    ensures { λ r. ⌜ (r ≡ d * length (now (input .entry))) × (now (output .exit) ≡ laid (split d (now (input .entry)) (now (tape .entry)))) ⌝ }
+    requires { ⌜ (d * length (now input) ≤ length (now tape)) × (length (now output) ≡ suc d * length (now input)) ⌝ }
+    ensures { λ r. ⌜ (r ≡ d * length (now (input .entry)))
+        × (now (output .exit) ≡ laid (split d (now (input .entry)) (now (tape .entry)))) ⌝ }
 {
     let l = input.len();
     let drawn = first_share(d, input, tape, output);
@@ -31,22 +36,35 @@ fn split_core(d: usize, input: &[u8], tape: &[u8], output: &mut [u8]) -> usize
     drawn
 }
 
-pub fn split(order: usize, input: &[u8], tape: &[u8], output: &mut [u8]) -> Answer
-    ensures { λ r. ⌜ outcome r (now (output .exit)) ≡ Split-outcome order (now (input .entry)) (now (tape .entry)) (now (output .entry)) ⌝ }
+// The tests of a call, on the lengths of its buffers.
+fn split_answer(order: usize, input: usize, tape: usize, output: usize) -> Answer
+    ensures { λ r. ⌜ r ≡ answered (Split-tests order input tape output) (took (split-need order (share-length 1 input))) ⌝ }
 {
-    if crate::answers::unserved(order) {
+    if !answers::served(order) {
         return Answer::Refused(Refusal::Order);
     }
-    let l = crate::answers::share_length(1, input.len());
-    let answer = crate::answers::checked(
-        true,
-        0 < l,
-        output.len() == (order + 1) * l,
-        tape.len(),
-        order * l,
-    );
+    let l = answers::share_length(1, input);
+    if l == 0 {
+        return Answer::Refused(Refusal::Input);
+    }
+    if output != (order + 1) * l {
+        return Answer::Refused(Refusal::Output);
+    }
+    if tape < order * l {
+        return Answer::Refused(Refusal::Tape);
+    }
+    Answer::Taken(Count { taken: order * l })
+}
+
+pub fn split(order: usize, input: &[u8], tape: &[u8], output: &mut [u8]) -> Answer
+    ensures { λ r. ⌜ outcome r (now (output .exit))
+        ≡ Split-outcome order (now (input .entry)) (now (tape .entry)) (now (output .entry)) ⌝ }
+{
+    let answer = split_answer(order, input.len(), tape.len(), output.len());
     let Answer::Taken(_) = answer else {
         return answer;
     };
-    Answer::Taken(split_core(order, input, tape, output))
+    Answer::Taken(Count {
+        taken: split_core(order, input, tape, output),
+    })
 }

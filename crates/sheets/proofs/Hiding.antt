@@ -1,14 +1,13 @@
 -- DEMAND 3 FOR BYTES: the hiding rule of `isw` for the field's product, about the very sheet and reading that the contracts of `product_sheet`
 -- and `read_places` name; and that the product's shares join to the product. Assumes nothing.
-use mathlib.Core.Path.{_≡_, refl, _∙_}
-use mathlib.Core.Bool.{true, false}
+use mathlib.Core.Path.{_≡_, refl, ap, _∙_}
+use mathlib.Core.Bool.{true}
 use mathlib.Core.List.{List}
 use Prim.Native.Nat.{ℕ, suc, _+_, _≤_}
-use native.Mathlib.Numerals.{add-one}
 use native.Mathlib.Omega.{arith}
 use lib.ListN.{length, take, drop, length-drop}
 use lib.Seq.{length-take-le}
-use borrow.Author.Tests.{eq-eqb, lt-ltb, le-ltb}
+use borrow.Author.Tests.{eq-eqb, lt-ltb}
 use Rattle.xor.specs.Lists.{Below, done, _&_}
 use Rattle.xor.specs.Sums.{joined}
 use Rattle.gf256.specs.Field.{times}
@@ -20,9 +19,10 @@ use Rattle.isw.proofs.Hiding.{hides}
 use Rattle.isw.proofs.JoinLaws.{product-joins-all}
 use Rattle.isw.proofs.Document03Laws.{hides-document03}
 use Rattle.shares.specs.Outcome as Outcome
-use Rattle.shares.specs.Outcome.{unserved}
-use Rattle.masking.specs.Calls.{two-fit}
+use Rattle.shares.specs.Outcome.{took, served}
+use Rattle.shares.proofs.OutcomeLaws.{all, _and_, settled-passed, le-reaches}
 use Rattle.sheets.specs.Calls.{all-below, Reading-outcome}
+use Rattle.sheets.proofs.ReadingLaws.{two-fit-both}
 
 -- THE HIDING RULE for the field's product, at every order
 pub bytes-hide : Hides times 8
@@ -44,24 +44,21 @@ all-below-true m done = refl
 all-below-true m (_&_ {x = p} {xs = ps} h hs) = simp (lt-ltb p m h, all-below-true m hs)
 
 -- a call on the shares and the tape of a choice is carried through, and puts out what the choice shows at the listed places
-pub reading-of-choice : (d x y : ℕ) (cs ps o : List ℕ) → unserved d ≡ false → length cs ≡ choice-length d
+pub reading-of-choice : (d x y : ℕ) (cs ps o : List ℕ) → served d ≡ true → length cs ≡ choice-length d
     → length ps ≤ d → Below (place-count d) ps → length o ≡ length ps
     → Reading-outcome d (factor x (take d cs)) (factor y (take d (drop d cs))) (drop (d + d) cs) ps o
-    ≡ Outcome.done (product-need d) (listed (chosen times d x y cs) ps)
-unfolding Reading-outcome two-fit factor choice-length chosen
-reading-of-choice d x y cs ps o served long few below room =
+    ≡ Outcome.done (took (product-need d)) (listed (chosen times d x y cs) ps)
+unfolding Reading-outcome factor choice-length chosen
+reading-of-choice d x y cs ps o order long few below room =
     let a : length (take d cs) ≡ d = length-take-le d cs (omega arith) in
     let r : length (drop d cs) ≡ d + product-need d = length-drop d cs ∙ omega arith in
     let b : length (take d (drop d cs)) ≡ d = length-take-le d (drop d cs) (omega arith) in
     let t : length (drop (d + d) cs) ≡ product-need d = length-drop (d + d) cs ∙ omega arith in
-    simp (
-      served,
-      add-one d,
-      a,
-      b,
-      eq-eqb (suc d) (suc d) refl,
-      le-ltb (length (drop (d + d) cs)) (product-need d) (omega arith),
-      eq-eqb (length o) (length ps) room,
-      le-ltb d (length ps) few,
-      all-below-true (place-count d) below,
-    )
+    settled-passed _ o _
+    (order
+    and two-fit-both d _ _ (ap suc a) (ap suc b)
+    and le-reaches (length (drop (d + d) cs)) (product-need d) (omega arith)
+    and eq-eqb (length o) (length ps) room
+    and le-reaches d (length ps) few
+    and all-below-true (place-count d) below
+    and all)

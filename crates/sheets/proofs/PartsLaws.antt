@@ -188,30 +188,31 @@ module _ (n : ℕ) (a b ts : List ℕ) (few : n ≤ 9) where
 -- ---- the running sums and the table of a product of order d, before row i
 
 pub record Gathered (d : ℕ) (a b ts : List ℕ) (i : ℕ) (sums table : List ℕ) : Type 0 where
-  pub sums-are : Sums (d + 1) a b ts i sums
-  pub parts-are : Parts-before (d + 1) a b ts i table
+  pub sums-are : Sums (suc d) a b ts i sums
+  pub parts-are : Parts-before (suc d) a b ts i table
 
 module _ (d : ℕ) (a b ts s t : List ℕ) (few : d ≤ 8) (room : length t ≡ 81) where
   -- before the first
-  pub gathered-start : (u : List ℕ) → s ≡ starts a b (d + 1) → u ≡ starts-put (at s) t (d + 1) → Gathered d a b ts 0 s u
-  gathered-start u e f = record {
-    sums-are = sums-start (d + 1) a b ts s e;
-    parts-are = rw f (parts-start (d + 1) a b ts (omega arith) (at s) t room (λ k h. start-sum (d + 1) a b ts s k e h));
-  }
+  pub gathered-start : (n : ℕ) (u : List ℕ) → n ≡ suc d → s ≡ starts a b n → u ≡ starts-put (at s) t n → Gathered d a b ts 0 s u
+  gathered-start n u x e f =
+      let y : s ≡ starts a b (suc d) = e ∙ ap (starts a b) x in record {
+        sums-are = sums-start (suc d) a b ts s y;
+        parts-are = rw (f, x) (parts-start (suc d) a b ts (omega arith) (at s) t room (λ k h. start-sum (suc d) a b ts s k y h));
+      }
 
   -- one row more
-  pub gathered-row : (i w : ℕ) (tape v u : List ℕ) → d + 1 ≡ i + 1 + w → tape ≡ drop (before-row (d + 1) i) ts → length s ≡ d + 1
+  pub gathered-row : (i w : ℕ) (tape v u : List ℕ) → suc d ≡ i + 1 + w → tape ≡ drop (before-row (suc d) i) ts → length s ≡ suc d
       → v ≡ pairs-taken a b tape i w s → u ≡ row-put i (λ m. running (at s i) (at tape) (m + 1)) (at v) t w
       → Gathered d a b ts i s t → Gathered d a b ts (i + 1) v u
   gathered-row i w tape v u x f l e h g = record {
     sums-are = next;
     parts-are =
-        rw h (parts-row (d + 1) a b ts (omega arith) i w _ (at v) t room x (row-own-next (d + 1) a b ts i w tape s x f (omega arith) (g .sums-are))
+        rw h (parts-row (suc d) a b ts (omega arith) i w _ (at v) t room x (row-own-next (suc d) a b ts i w tape s x f (omega arith) (g .sums-are))
         (λ k y y₂. next .begun k (omega arith) y₂) (g .parts-are));
   }
     where
-      next : Sums (d + 1) a b ts (i + 1) v
-      next = rw e (row-taken-sums (d + 1) a b ts i w tape s x f (omega arith) (g .sums-are))
+      next : Sums (suc d) a b ts (i + 1) v
+      next = rw e (row-taken-sums (suc d) a b ts i w tape s x f (omega arith) (g .sums-are))
 
 -- ---- its rows
 
@@ -243,17 +244,17 @@ module _ (n : ℕ) (t : List ℕ) where
 
 -- once all rows are in, they are those of the sheet
 module _ (d : ℕ) (a b ts s t : List ℕ) (g : Gathered d a b ts d s t) where
-  table-in : (k q : ℕ) → k < d + 1 → q < d + 1 → at t (k * 9 + q) ≡ byte times (at a) (at b) (drawn (d + 1) ts) (part k q)
+  table-in : (k q : ℕ) → k < suc d → q < suc d → at t (k * 9 + q) ≡ byte times (at a) (at b) (drawn (suc d) ts) (part k q)
   unfolding byte
   table-in k q h l = elim (decLt k d) [
     | yes y ↦ g .parts-are .whole k q y l
     | no y ↦ g .parts-are .begun k q (omega arith) h (omega arith)
   ]
 
-  table-row : (k : ℕ) → k < d + 1 → tab (λ q. at t (k * 9 + q)) (d + 1) ≡ map (byte times (at a) (at b) (drawn (d + 1) ts)) (row-places (d + 1) k)
+  table-row : (k : ℕ) → k < suc d → tab (λ q. at t (k * 9 + q)) (suc d) ≡ map (byte times (at a) (at b) (drawn (suc d) ts)) (row-places (suc d) k)
   unfolding row-places
-  table-row k h = tab-cong _ _ (d + 1) (λ q l. table-in k q h l) ∙ sym (map-tab (byte times (at a) (at b) (drawn (d + 1) ts)) (part k) (d + 1))
+  table-row k h = tab-cong _ _ (suc d) (λ q l. table-in k q h l) ∙ sym (map-tab (byte times (at a) (at b) (drawn (suc d) ts)) (part k) (suc d))
 
-  pub gathered-all : table-rows (d + 1) t (d + 1) ≡ sums-before (d + 1) a b ts (d + 1)
+  pub gathered-all : table-rows (suc d) t (suc d) ≡ sums-before (suc d) a b ts (suc d)
   unfolding table-rows
-  gathered-all = runs-cong _ _ (d + 1) table-row ∙ sym (map-runs (byte times (at a) (at b) (drawn (d + 1) ts)) (row-places (d + 1)) (d + 1))
+  gathered-all = runs-cong _ _ (suc d) table-row ∙ sym (map-runs (byte times (at a) (at b) (drawn (suc d) ts)) (row-places (suc d)) (suc d))

@@ -16,17 +16,16 @@ use Rattle.isw.specs.Place.{Place, left, right, part, half-sum, other, byte, pa
 use Rattle.isw.proofs.OrderLaws.{product-need-is, twice-need, length-rows}
 use Rattle.shares.specs.Writes.{front}
 use Rattle.shares.proofs.WriteLaws.{part-rest, front-part, front-all, at-front}
-use Rattle.sheets.specs.Parts.{pair-of, bytes-of, five-rows, row-bytes}
 use Rattle.masking.specs.Steps.{crosses, halves, crosseds, backs}
-use Rattle.sheets.specs.Parts.{pairs-before, sums-before}
+use Rattle.sheets.specs.Parts.{pair-of, bytes-of, five-rows, row-bytes, pairs-before, sums-before, table-rows}
 use Rattle.masking.proofs.TermsLaws.{product-need-rows}
 
 -- ---- counts
 
 -- that they fit, at an order up to 8
-pub count-bounds : (d : ℕ) → d ≤ 8 → ((d + 1) * (d + 1) ≤ 81) × (d * (d + 1) ≤ 72)
+pub count-bounds : (d : ℕ) → d ≤ 8 → (suc d * suc d ≤ 81) × (d * suc d ≤ 72)
 count-bounds d h =
-    let n : d + 1 ≤ 9 = omega arith in
+    let n : suc d ≤ 9 = omega arith in
     (mul-le-mul n n, mul-le-mul h n)
 
 -- 36 bytes are drawn at the most
@@ -35,9 +34,9 @@ few-drawn d h =
     let n : suc d ≤ 9 = omega arith in
     omega (arith, twice-need d, mul-le-mul h n)
 
-pub place-count-parts : (d : ℕ) → place-count d ≡ 2 * (d + 1) + 5 * product-need d + (d + 1) * (d + 1)
+pub place-count-parts : (d : ℕ) → place-count d ≡ 2 * suc d + 5 * product-need d + suc d * suc d
 unfolding place-count
-place-count-parts d = rw (product-need-is d, add-one) refl
+place-count-parts d = rw (product-need-is d) refl
 
 -- i rows of n and one more are within n rows
 pub rows-room : (i n : ℕ) → i < n → i * n + n ≤ n * n
@@ -153,56 +152,51 @@ pair-row-last d =
     let e : suc d - suc d ≡ 0 = omega arith in
     ap (runs (λ m. pair-places d (suc d + m))) e
 
-pub pairs-last : (d : ℕ) (a b ts : List ℕ) → pairs-before (d + 1) a b ts d ≡ pairs-before (d + 1) a b ts (d + 1)
+pub pairs-last : (d : ℕ) (a b ts : List ℕ) → pairs-before (suc d) a b ts d ≡ pairs-before (suc d) a b ts (suc d)
 unfolding runs
 pairs-last d a b ts =
-    rw add-one
-    (ap (map (byte times (at a) (at b) (drawn (suc d) ts)))
-    (sym (append-nil (runs (pair-row (suc d)) d)) ∙ ap (_++_ (runs (pair-row (suc d)) d)) (sym (pair-row-last d))))
+    ap (map (byte times (at a) (at b) (drawn (suc d) ts)))
+    (sym (append-nil (runs (pair-row (suc d)) d)) ∙ ap (_++_ (runs (pair-row (suc d)) d)) (sym (pair-row-last d)))
 
 -- ---- the whole
 
 -- both factors, all pairs, all running sums
 module _ (d : ℕ) (a b ts : List ℕ) where
   abbrev pairs : List ℕ
-  pairs = pairs-before (d + 1) a b ts (d + 1)
+  pairs = pairs-before (suc d) a b ts (suc d)
 
   abbrev sums : List ℕ
-  sums = sums-before (d + 1) a b ts (d + 1)
+  sums = sums-before (suc d) a b ts (suc d)
 
-  module _ (la : length a ≡ d + 1) (lb : length b ≡ d + 1) where
+  module _ (la : length a ≡ suc d) (lb : length b ≡ suc d) where
     sheet-parts : a ++ b ++ pairs ++ sums ≡ sheet times d a b ts
     unfolding sheet places value
-    sheet-parts = go (d + 1) (add-one d) la lb
+    sheet-parts =
+        let f = byte times (at a) (at b) (drawn (suc d) ts) in
+        simp (map-append, shares-are f a left (suc d) la (λ i. unfold byte in refl), shares-are f b right (suc d) lb (λ i. unfold byte in refl))
       where
         shares-are : (f : Place → ℕ) (x : List ℕ) (p : ℕ → Place) (n : ℕ) → length x ≡ n → ((i : ℕ) → f (p i) ≡ at x i) → map f (tab p n) ≡ x
         shares-are f x p n l e =
             map-tab f p n ∙ tab-cong (λ i. f (p i)) (at x) n (λ i u. e i) ∙ ap (tab (at x)) (sym l) ∙ tab-at x
 
-        go : (n : ℕ) → n ≡ suc d → length a ≡ n → length b ≡ n
-            → a ++ b ++ pairs-before n a b ts n ++ sums-before n a b ts n
-            ≡ map (byte times (at a) (at b) (drawn (suc d) ts)) (tab left (suc d) ++ tab right (suc d) ++ runs (pair-row (suc d)) (suc d) ++ runs (row-places (suc d)) (suc d))
-        go n e h k =
-            let f = byte times (at a) (at b) (drawn n ts) in
-            rw (sym e) (simp (map-append, shares-are f a left n h (λ i. unfold byte in refl), shares-are f b right n k (λ i. unfold byte in refl)))
-
-    -- the parts, each written behind those before it
-    pub sheet-written : (k : ℕ) (o y q₂ q₃ q₄ : List ℕ) → length o ≡ place-count d → k ≡ product-need d
+    -- the parts, each written behind those before it, the sums from a table
+    pub sheet-written : (n k : ℕ) (t o y q₂ q₃ q₄ : List ℕ) → n ≡ suc d → length o ≡ place-count d → k ≡ product-need d
+        → table-rows (suc d) t (suc d) ≡ sums
         → y ≡ front a o
-        → q₂ ≡ front b (rest (d + 1) y)
-        → q₃ ≡ front pairs (rest (2 * (d + 1)) (behind (d + 1) y q₂))
-        → q₄ ≡ front sums (rest (2 * (d + 1) + 5 * k) (behind (2 * (d + 1)) (behind (d + 1) y q₂) q₃))
-        → behind (2 * (d + 1) + 5 * k) (behind (2 * (d + 1)) (behind (d + 1) y q₂) q₃) q₄ ≡ sheet times d a b ts
-    sheet-written k o y q₂ q₃ q₄ lo e p₁ p₂ p₃ p₄ =
-        let n = d + 1 in
+        → q₂ ≡ front b (rest n y)
+        → q₃ ≡ front pairs (rest (2 * n) (behind n y q₂))
+        → q₄ ≡ front (table-rows n t n) (rest (2 * n + 5 * k) (behind (2 * n) (behind n y q₂) q₃))
+        → behind (2 * n + 5 * k) (behind (2 * n) (behind n y q₂) q₃) q₄ ≡ sheet times d a b ts
+    sheet-written n k t o y q₂ q₃ q₄ x lo e gathered p₁ p₂ p₃ p₄ =
         let m = 2 * n + 5 * k in
-        let l : length o ≡ m + n * n = lo ∙ place-count-parts d ∙ rw e refl in
-        let lp : length pairs ≡ 5 * k = length-pairs n a b ts n ∙ rw (e, product-need-rows d) refl in
-        let ls : length sums ≡ n * n = length-sums n a b ts n in
+        let l : length o ≡ m + n * n = lo ∙ place-count-parts d ∙ rw (e, x) refl in
+        let lp : length pairs ≡ 5 * k = length-pairs (suc d) a b ts (suc d) ∙ rw (e, product-need-rows d) refl in
+        let ls : length sums ≡ n * n = length-sums (suc d) a b ts (suc d) ∙ rw x refl in
         let l₂ : length (a ++ b) ≡ 2 * n = length-append a b ∙ omega arith in
         let l₃ : length (a ++ b ++ pairs) ≡ m = length-append (a ++ b) pairs ∙ omega arith in
         let l₄ : length (a ++ b ++ pairs ++ sums) ≡ length o = length-append (a ++ b ++ pairs) sums ∙ omega arith in
-        let e₂ = front-part n y q₂ o b a (a ++ b) p₁ la (omega arith) p₂ refl in
+        let s : table-rows n t n ≡ sums = ap (λ (z : ℕ). table-rows z t z) x ∙ gathered in
+        let e₂ = front-part n y q₂ o b a (a ++ b) p₁ (la ∙ sym x) (omega arith) p₂ refl in
         let e₃ = front-part (2 * n) (behind n y q₂) q₃ o pairs (a ++ b) (a ++ b ++ pairs) e₂ l₂ (omega arith) p₃ refl in
-        front-part m (behind (2 * n) (behind n y q₂) q₃) q₄ o sums (a ++ b ++ pairs) (a ++ b ++ pairs ++ sums) e₃ l₃ (omega arith) p₄ refl
+        front-part m (behind (2 * n) (behind n y q₂) q₃) q₄ o sums (a ++ b ++ pairs) (a ++ b ++ pairs ++ sums) e₃ l₃ (omega arith) (rw s at p₄) refl
         ∙ front-all (a ++ b ++ pairs ++ sums) o l₄ ∙ sheet-parts

@@ -1,25 +1,16 @@
 // Reading places: the sheet's bytes at the places that a list of 16-bit numbers names.
 ghost use mathlib.Core.Path.{_≡_};
-ghost use mathlib.Core.Bool.{true, false};
-ghost use Prim.Native.Nat.{_≤_, _<_};
+ghost use mathlib.Core.Bool.{true};
 ghost use lib.ListN.{length};
+ghost use Rattle.gf256.specs.Field as Field;
 ghost use Rattle.isw.specs.Place as Place;
-ghost use Rattle.shares.specs.Outcome as Outcome;
-ghost use Rattle.shares.specs.Outcome.{outcome};
+ghost use Rattle.shares.specs.Outcome.{outcome, answered, took};
+ghost use Rattle.sheets.specs.Fits.{Factors-fit};
 ghost use Rattle.sheets.specs.Calls as Calls;
-ghost use Rattle.sheets.specs.Calls.{Reading-outcome};
+ghost use Rattle.sheets.specs.Calls.{Reading-tests, Reading-outcome};
 use shares::Answer;
+use shares::Count;
 use shares::Refusal;
-
-// P(d) where d is an order that is served, and 0 where it is not.
-fn sheet_size(order: usize) -> usize
-    ensures { λ r. ⌜ (Outcome.unserved order ≡ false → r ≡ Place.place-count order) × (r ≤ 279) ⌝ }
-{
-    if shares::answers::unserved(order) {
-        return 0;
-    }
-    crate::sheet::place_count(order)
-}
 
 // Whether each place of the list is below size.
 fn all_below(size: usize, list: &[u16]) -> bool
@@ -35,6 +26,43 @@ fn all_below(size: usize, list: &[u16]) -> bool
     ok
 }
 
+// The tests of a call, on the lengths of its buffers and on whether each place of the list is one.
+fn reading_answer(
+    order: usize,
+    left: usize,
+    right: usize,
+    tape: usize,
+    list: usize,
+    output: usize,
+    below: bool,
+) -> Answer
+    ensures { λ r. ⌜ r ≡ answered (Reading-tests order left right tape list output below) (took (Place.product-need order)) ⌝ }
+{
+    if !shares::answers::served(order) {
+        return Answer::Refused(Refusal::Order);
+    }
+    if left != order + 1 {
+        return Answer::Refused(Refusal::Input);
+    }
+    if right != order + 1 {
+        return Answer::Refused(Refusal::Input);
+    }
+    let need = masking::product::product_need(order);
+    if tape < need {
+        return Answer::Refused(Refusal::Tape);
+    }
+    if output != list {
+        return Answer::Refused(Refusal::Output);
+    }
+    if order < list {
+        return Answer::Refused(Refusal::List);
+    }
+    if !below {
+        return Answer::Refused(Refusal::Place);
+    }
+    Answer::Taken(Count { taken: need })
+}
+
 // The bytes of the sheet at the places of the list.
 fn pick_listed(sheet: &[u8], list: &[u16], output: &mut [u8])
     requires { ⌜ (length (now output) ≡ length (now list)) × (Calls.all-below (length (now sheet)) (now list) ≡ true) ⌝ }
@@ -46,36 +74,43 @@ fn pick_listed(sheet: &[u8], list: &[u16], output: &mut [u8])
     }
 }
 
-// The reading, with room for the sheet. All entries are tested before the first byte is written.
+// The listed bytes, with room for the sheet. Answers with how many bytes were drawn.
 fn read_with(
-    order: usize,
-    left: &[u8],
-    right: &[u8],
+    d: usize,
+    a: &[u8],
+    b: &[u8],
     tape: &[u8],
     list: &[u16],
     sheet: &mut [u8],
     output: &mut [u8],
-) -> Answer
-    requires { ⌜ (Outcome.unserved order ≡ false → length (now sheet) ≡ Place.place-count order) ⌝ }
-    ensures { λ r. ⌜ outcome r (now (output .exit)) ≡ Reading-outcome order (now (left .entry)) (now (right .entry)) (now (tape .entry)) (now (list .entry)) (now (output .entry)) ⌝ }
+) -> usize
+    requires { ⌜ Factors-fit d (now a) (now b) (now tape) × (length (now sheet) ≡ Place.place-count d)
+        × (length (now output) ≡ length (now list)) × (Calls.all-below (Place.place-count d) (now list) ≡ true) ⌝ }
+    ensures { λ k. ⌜ (k ≡ Place.product-need d)
+        × (now (output .exit)
+        ≡ Place.listed (Place.sheet Field.times d (now (a .entry)) (now (b .entry)) (now (tape .entry))) (now (list .entry))) ⌝ }
 {
-    let made = crate::sheet::product_sheet(order, left, right, tape, sheet);
-    let Answer::Taken(taken) = made else {
-        return made;
-    };
-    if output.len() != list.len() {
-        return Answer::Refused(Refusal::Output);
-    }
-    if order < list.len() {
-        return Answer::Refused(Refusal::List);
-    }
-    if all_below(sheet.len(), list) {
-        pick_listed(sheet, list, output);
-        return Answer::Taken(taken);
-    }
-    Answer::Refused(Refusal::Place)
+    let logs = gf256::logs();
+    let antilogs = gf256::antilogs();
+    let drawn = crate::sheet::sheet_core(&logs, &antilogs, d, a, b, tape, sheet);
+    pick_listed(sheet, list, output);
+    drawn
 }
 
+// The listed bytes. Answers with how many bytes were drawn.
+fn read_core(d: usize, a: &[u8], b: &[u8], tape: &[u8], list: &[u16], output: &mut [u8]) -> usize
+    requires { ⌜ Factors-fit d (now a) (now b) (now tape)
+        × (length (now output) ≡ length (now list)) × (Calls.all-below (Place.place-count d) (now list) ≡ true) ⌝ }
+    ensures { λ k. ⌜ (k ≡ Place.product-need d)
+        × (now (output .exit)
+        ≡ Place.listed (Place.sheet Field.times d (now (a .entry)) (now (b .entry)) (now (tape .entry))) (now (list .entry))) ⌝ }
+{
+    let mut sheet = [0u8; 279];
+    let size = crate::sheet::place_count(d);
+    read_with(d, a, b, tape, list, &mut sheet[0..size], output)
+}
+
+// All entries of the list are tested before the first byte is written.
 pub fn read_places(
     order: usize,
     left: &[u8],
@@ -84,9 +119,23 @@ pub fn read_places(
     list: &[u16],
     output: &mut [u8],
 ) -> Answer
-    ensures { λ r. ⌜ outcome r (now (output .exit)) ≡ Reading-outcome order (now (left .entry)) (now (right .entry)) (now (tape .entry)) (now (list .entry)) (now (output .entry)) ⌝ }
+    ensures { λ r. ⌜ outcome r (now (output .exit))
+        ≡ Reading-outcome order (now (left .entry)) (now (right .entry)) (now (tape .entry)) (now (list .entry)) (now (output .entry)) ⌝ }
 {
-    let mut sheet = [0u8; 279];
-    let size = sheet_size(order);
-    read_with(order, left, right, tape, list, &mut sheet[0..size], output)
+    let below = all_below(crate::sheet::sheet_size(order), list);
+    let answer = reading_answer(
+        order,
+        left.len(),
+        right.len(),
+        tape.len(),
+        list.len(),
+        output.len(),
+        below,
+    );
+    let Answer::Taken(_) = answer else {
+        return answer;
+    };
+    Answer::Taken(Count {
+        taken: read_core(order, left, right, tape, list, output),
+    })
 }

@@ -1,22 +1,25 @@
 // The sheet of a masked product: the byte at each of its places, in their order. No byte of it is computed here: each is one that the product's own
 // routines left. Document 01, "Places in one product", decides.
 ghost use mathlib.Core.Path.{_≡_};
-ghost use Prim.Native.Nat.{_+_, _*_, _≤_, _<_};
+ghost use mathlib.Core.Bool.{true};
+ghost use Prim.Native.Nat.{suc, _+_, _*_, _≤_};
 ghost use lib.ListN.{length};
 ghost use Rattle.xor.specs.Lists.{at};
 ghost use Rattle.gf256.specs.Field as Field;
 ghost use Rattle.gf256.specs.Tables.{Tables};
 ghost use Rattle.isw.specs.Place as Place;
+ghost use Rattle.shares.specs.Outcome as Outcome;
 ghost use Rattle.shares.specs.Outcome.{outcome};
 ghost use Rattle.shares.specs.Writes.{front};
 ghost use Rattle.masking.specs.Steps as Steps;
 ghost use Rattle.sheets.specs.Parts.{bytes-of, five-rows, row-bytes, pairs-before, sums-before, starts-put, row-put, table-rows};
+ghost use Rattle.sheets.specs.Fits.{Factors-fit, Row-fits, Rows-fit};
 ghost use Rattle.sheets.specs.Calls.{Sheet-outcome};
 use crate::Pair;
 use gf256::Antilogs;
 use gf256::Logs;
 use shares::Answer;
-use shares::Refusal;
+use shares::Count;
 
 // P(d), how many places there are.
 pub fn place_count(d: usize) -> usize
@@ -25,6 +28,16 @@ pub fn place_count(d: usize) -> usize
 {
     let n = d + 1;
     2 * n + 5 * (d * n / 2) + n * n
+}
+
+// P(d) where d is an order that is served, and 0 where it is not.
+pub fn sheet_size(order: usize) -> usize
+    ensures { λ r. ⌜ (Outcome.served order ≡ true → r ≡ Place.place-count order) × (r ≤ 279) ⌝ }
+{
+    if shares::answers::served(order) {
+        return place_count(order);
+    }
+    0
 }
 
 // The five bytes of a pair, over the front of out.
@@ -49,8 +62,7 @@ fn put_row(
     back: &[u8],
     out: &mut [u8],
 )
-    requires { ⌜ (w ≤ 8) × (w ≤ length (now tape)) × (w ≤ length (now cross)) × (w ≤ length (now half))
-        × (w ≤ length (now crossed)) × (w ≤ length (now back)) × (5 * w ≤ length (now out)) ⌝ }
+    requires { ⌜ Rows-fit w (now tape) (now cross) (now half) (now crossed) (now back) × (5 * w ≤ length (now out)) ⌝ }
     ensures { λ _. ⌜ now (out .exit)
         ≡ front (five-rows (now (tape .entry)) (now (cross .entry)) (now (half .entry)) (now (crossed .entry)) (now (back .entry)) w)
         (now (out .entry)) ⌝ }
@@ -105,8 +117,7 @@ fn sheet_row(
     table: &mut [u8],
     out: &mut [u8],
 ) -> usize
-    requires { ⌜ (0 < w) × (i + 1 + w ≤ 9) × (i + 1 + w ≤ length (now a)) × (i + 1 + w ≤ length (now b))
-        × (w ≤ length (now tape)) × (i + 1 + w ≤ length (now sums)) × (length (now table) ≡ 81)
+    requires { ⌜ Row-fits i w (now a) (now b) (now tape) (now sums) × (length (now table) ≡ 81)
         × (5 * w ≤ length (now out)) × Tables (now logs) (now antilogs) ⌝ }
     ensures { λ k. ⌜ (k ≡ w)
         × (now (out .exit) ≡ front (row-bytes (now (a .entry)) (now (b .entry)) (now (tape .entry)) i w) (now (out .entry)))
@@ -152,13 +163,12 @@ fn sheet_rows(
     table: &mut [u8],
     out: &mut [u8],
 ) -> usize
-    requires { ⌜ (d ≤ 8) × (length (now a) ≡ d + 1) × (length (now b) ≡ d + 1)
-        × (Place.product-need d ≤ length (now tape)) × (length (now sums) ≡ d + 1)
-        × (length (now table) ≡ 81) × (5 * Place.product-need d ≤ length (now out))
-        × Tables (now logs) (now antilogs) ⌝ }
+    requires { ⌜ Factors-fit d (now a) (now b) (now tape) × (length (now sums) ≡ suc d) × (length (now table) ≡ 81)
+        × (5 * Place.product-need d ≤ length (now out)) × Tables (now logs) (now antilogs) ⌝ }
     ensures { λ k. ⌜ (k ≡ Place.product-need d)
-        × (now (out .exit) ≡ front (pairs-before (d + 1) (now (a .entry)) (now (b .entry)) (now (tape .entry)) (d + 1)) (now (out .entry)))
-        × (table-rows (d + 1) (now (table .exit)) (d + 1) ≡ sums-before (d + 1) (now (a .entry)) (now (b .entry)) (now (tape .entry)) (d + 1)) ⌝ }
+        × (now (out .exit) ≡ front (pairs-before (suc d) (now (a .entry)) (now (b .entry)) (now (tape .entry)) (suc d)) (now (out .entry)))
+        × (table-rows (suc d) (now (table .exit)) (suc d)
+        ≡ sums-before (suc d) (now (a .entry)) (now (b .entry)) (now (tape .entry)) (suc d)) ⌝ }
 {
     let n = d + 1;
     masking::steps::start_sums(logs, antilogs, n, a, b, sums);
@@ -208,8 +218,7 @@ fn sheet_with(
     table: &mut [u8],
     out: &mut [u8],
 ) -> usize
-    requires { ⌜ (d ≤ 8) × (length (now a) ≡ d + 1) × (length (now b) ≡ d + 1)
-        × (Place.product-need d ≤ length (now tape)) × (length (now sums) ≡ d + 1) × (length (now table) ≡ 81)
+    requires { ⌜ Factors-fit d (now a) (now b) (now tape) × (length (now sums) ≡ suc d) × (length (now table) ≡ 81)
         × (length (now out) ≡ Place.place-count d) × Tables (now logs) (now antilogs) ⌝ }
     ensures { λ k. ⌜ (k ≡ Place.product-need d)
         × (now (out .exit) ≡ Place.sheet Field.times d (now (a .entry)) (now (b .entry)) (now (tape .entry))) ⌝ }
@@ -244,8 +253,7 @@ pub fn sheet_core(
     tape: &[u8],
     out: &mut [u8],
 ) -> usize
-    requires { ⌜ (d ≤ 8) × (length (now a) ≡ d + 1) × (length (now b) ≡ d + 1)
-        × (Place.product-need d ≤ length (now tape)) × (length (now out) ≡ Place.place-count d)
+    requires { ⌜ Factors-fit d (now a) (now b) (now tape) × (length (now out) ≡ Place.place-count d)
         × Tables (now logs) (now antilogs) ⌝ }
     ensures { λ k. ⌜ (k ≡ Place.product-need d)
         × (now (out .exit) ≡ Place.sheet Field.times d (now (a .entry)) (now (b .entry)) (now (tape .entry))) ⌝ }
@@ -276,21 +284,20 @@ pub fn product_sheet(
     ensures { λ r. ⌜ outcome r (now (output .exit))
         ≡ Sheet-outcome order (now (left .entry)) (now (right .entry)) (now (tape .entry)) (now (output .entry)) ⌝ }
 {
-    if shares::answers::unserved(order) {
-        return Answer::Refused(Refusal::Order);
-    }
-    let fits = masking::product::two_fit(order, left, right);
-    let answer = shares::answers::checked(
-        true,
-        fits,
-        output.len() == place_count(order),
+    let answer = masking::product::factors_answer(
+        sheet_size(order),
+        order,
+        left.len(),
+        right.len(),
         tape.len(),
-        masking::product::product_need(order),
+        output.len(),
     );
     let Answer::Taken(_) = answer else {
         return answer;
     };
     let logs = gf256::logs();
     let antilogs = gf256::antilogs();
-    Answer::Taken(sheet_core(&logs, &antilogs, order, left, right, tape, output))
+    Answer::Taken(Count {
+        taken: sheet_core(&logs, &antilogs, order, left, right, tape, output),
+    })
 }

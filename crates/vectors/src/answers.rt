@@ -1,36 +1,50 @@
-// Answers by document 01's numbers: printed, and compared with the one that is wanted.
+// Answers of the library as plain numbers: printed, and compared with the one that a line wants.
+use crate::lines;
 use shares::Answer;
 
-pub fn print(a: Answer) {
+// What came of one call or of several: how many tape bytes were taken, or document 01's number of the refusal. Refusal 0 is none of the document's.
+pub struct Came {
+    pub served: bool,
+    pub number: usize,
+}
+
+pub fn of(a: Answer) -> Came {
     match a {
-        Answer::Taken(n) => text::print_with(b"taken ", n),
-        Answer::Refused(r) => text::print_with(b"refused ", shares::answers::number(r) as usize),
+        Answer::Taken(count) => Came {
+            served: true,
+            number: count.taken,
+        },
+        Answer::Refused(r) => Came {
+            served: false,
+            number: shares::answers::number(r) as usize,
+        },
     }
 }
 
-// The answer that a call is to give: so many tape bytes taken, or the refusal of that number.
-pub enum Wanted {
-    Taken(usize),
-    Refused(usize),
+// The tape that a call leaves. A refused one leaves none, so that the calls behind it are refused too.
+pub fn rest(tape: &[u8], c: Came) -> &[u8] {
+    if c.served {
+        return shares::unused_tape(tape, c.number);
+    }
+    &tape[0..0]
 }
 
-fn took(a: Answer, n: usize) -> bool {
-    match a {
-        Answer::Taken(m) => m == n,
-        Answer::Refused(_) => false,
+// Whether a line wants this answer.
+pub fn is_wanted(line: &[u8], c: Came) -> bool {
+    if lines::number(line, 8) != c.number {
+        return false;
+    }
+    match lines::letter(line, 7) {
+        b't' => c.served,
+        b'r' => !c.served,
+        _ => false,
     }
 }
 
-fn refused(a: Answer, n: usize) -> bool {
-    match a {
-        Answer::Taken(_) => false,
-        Answer::Refused(r) => shares::answers::number(r) as usize == n,
-    }
-}
-
-pub fn is_wanted(a: Answer, w: Wanted) -> bool {
-    match w {
-        Wanted::Taken(n) => took(a, n),
-        Wanted::Refused(n) => refused(a, n),
+pub fn print(c: Came) {
+    if c.served {
+        text::print_with(b" taken ", c.number);
+    } else {
+        text::print_with(b" refused ", c.number);
     }
 }

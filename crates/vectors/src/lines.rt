@@ -1,72 +1,95 @@
-// Lines `KEY BLOCK CIPHERTEXT` in hexadecimal, the form of the published examples and of standard input.
+// The text of a line: words with one space between them, read as numbers and as bytes in hexadecimal.
 ghost use Prim.Native.Nat.{_≤_};
 ghost use lib.ListN.{length};
-use crate::rows;
+use text::hexadecimal;
 
-// The rest of a line behind the key: a block and a ciphertext, each behind a space. Answers whether it has that form.
-fn read_rest(rest: &[u8], block: &mut [u8], cipher: &mut [u8]) -> bool {
-    if rest.len() != 66 {
-        return false;
-    }
-    if rest[0] != b' ' {
-        return false;
-    }
-    if rest[33] != b' ' {
-        return false;
-    }
-    if !rows::read(&rest[1..33], block) {
-        return false;
-    }
-    rows::read(&rest[34..66], cipher)
+// Room for standard input, and for a tape. A longer input is not read to its end, and the counts at the end of the output tell.
+pub fn buffer() -> [u8; 196608] {
+    [0; 196608]
 }
 
-// A whole line whose key is as long as the lent one. Answers whether it has that form.
-pub fn read(line: &[u8], key: &mut [u8], block: &mut [u8], cipher: &mut [u8]) -> bool {
-    if 32 < key.len() {
-        return false;
-    }
-    let digits = 2 * key.len();
-    if line.len() < digits {
-        return false;
-    }
-    if !rows::read(&line[0..digits], key) {
-        return false;
-    }
-    read_rest(&line[digits..], block, cipher)
-}
-
-// How many bytes the key of a line has, by the line's length: 16, 24 or 32, or 0 where that fits none.
-pub fn key_size(line: &[u8]) -> usize
-    ensures { λ r. ⌜ r ≤ 32 ⌝ }
-{
-    match line.len() {
-        98 => 16,
-        114 => 24,
-        130 => 32,
-        _ => 0,
-    }
-}
-
-// Whether a line has the form for some length of key.
-pub fn is_readable(line: &[u8]) -> bool {
-    let mut key = [0u8; 32];
-    let mut block = [0u8; 16];
-    let mut cipher = [0u8; 16];
-    let size = key_size(line);
-    if size == 0 {
-        return false;
-    }
-    read(line, &mut key[0..size], &mut block, &mut cipher)
-}
-
-// Where the line ends that begins at from: at a line feed, or at the end of the text.
-pub fn end(text: &[u8], from: usize) -> usize
+// Where the stretch of text from there on ends: before the first mark, or at the end of the text.
+pub fn end(text: &[u8], from: usize, mark: u8) -> usize
     requires { ⌜ from ≤ length (now text) ⌝ }
     ensures { λ r. ⌜ (from ≤ r) × (r ≤ length (now (text .entry))) ⌝ }
 {
     let mut at = from;
-    while at < text.len() && text[at] != b'\n' {
+    while at < text.len() && text[at] != mark {
         at += 1;
     }
     at
+}
+
+// Where word k begins, from 0 on; a line with fewer words has it at its end.
+pub fn start(line: &[u8], k: usize) -> usize
+    ensures { λ r. ⌜ r ≤ length (now (line .entry)) ⌝ }
+{
+    let mut at: usize = 0;
+    for i in 0..k {
+        at = end(line, at, b' ');
+        if at < line.len() {
+            at += 1;
+        }
+    }
+    at
+}
+
+pub fn word(line: &[u8], k: usize) -> &[u8] {
+    let a = start(line, k);
+    let e = end(line, a, b' ');
+    &line[a..e]
+}
+
+// The first letter of word k; 0 where there is none.
+pub fn letter(line: &[u8], k: usize) -> u8 {
+    let word = word(line, k);
+    if word.len() == 0 {
+        return 0;
+    }
+    word[0]
+}
+
+// Whether a word is a number in decimal.
+pub fn is_number(word: &[u8]) -> bool {
+    let mut good = 0 < word.len();
+    for i in 0..word.len() {
+        if word[i] < b'0' || b'9' < word[i] {
+            good = false;
+        }
+    }
+    good
+}
+
+// Word k in decimal, modulo 2^64.
+pub fn number(line: &[u8], k: usize) -> usize {
+    let word = word(line, k);
+    let mut n: usize = 0;
+    for i in 0..word.len() {
+        let tens = std::num::wrapping_add_usize(n << 3, n << 1);
+        n = std::num::wrapping_add_usize(tens, (word[i] % 16) as usize);
+    }
+    n
+}
+
+// Whether a word is bytes in hexadecimal, at most 15 round keys; `-` is none.
+pub fn is_bytes(word: &[u8]) -> bool {
+    let n = word.len();
+    if n == 1 {
+        return word[0] == b'-';
+    }
+    0 < n && n <= 480 && n % 2 == 0 && hexadecimal::are_digits(word)
+}
+
+// The bytes of word k, at the front of out. Answers with how many they are.
+pub fn bytes(line: &[u8], k: usize, out: &mut [u8]) -> usize
+    ensures { λ r. ⌜ r ≤ length (now (out .exit)) ⌝ }
+{
+    let word = word(line, k);
+    let n = word.len() / 2;
+    if out.len() < n {
+        return 0;
+    }
+    let digits = n * 2;
+    hexadecimal::fill(&word[0..digits], &mut out[0..n]);
+    n
 }

@@ -1,35 +1,40 @@
-// Runs the masked AES in both directions on values known from elsewhere and compares: document 01's small values that no theorem covers, the published
-// examples of FIPS 197, and on standard input the lines that an unrelated AES made (make-stdin); and the field's two products on all bytes. Prints what
-// was computed, line by line.
+// Runs the masked AES on values known from elsewhere and compares: document 01's small values that no theorem covers, the published examples of
+// FIPS 197, and what an unrelated AES made; and the field's two products on all bytes. Each line of standard input, which make-stdin makes, is one
+// run and what is wanted of it (forms.rt). A line of output is that line with what came in the place of what is wanted.
 mod answers;
+mod comparisons;
 mod counts;
-mod examples;
-mod expansions;
+mod forms;
 mod lines;
-mod outside;
 mod products;
-mod published;
-mod round_keys;
 mod routes;
-mod rows;
 mod runs;
 mod tapes;
 mod values;
 
 use crate::counts::Tally;
 
+// All lines in turn.
+fn compare(input: &[u8], start: Tally) -> Tally {
+    let mut t = start;
+    let mut at = 0;
+    while at < input.len() {
+        let end = lines::end(input, at, b'\n');
+        t = comparisons::compare_line(&input[at..end], t);
+        at = end + 1;
+    }
+    t
+}
+
 fn main() {
-    let mut tape = tapes::buffer();
-    let mut input = io::large_buffer();
+    let mut input = lines::buffer();
     let n = io::read_full(0, &mut input);
-    let start = Tally {
-        compared: 0,
-        different: 0,
-    };
-    let small = values::compare(start);
-    let multiplied = products::compare(small);
-    let expanded = expansions::compare(&mut tape, multiplied);
-    let known = published::compare(&mut tape, expanded);
-    let all = outside::compare(&input[..n], &mut tape, known);
-    counts::print(all);
+    let multiplied = products::compare();
+    let all = compare(&input[..n], multiplied);
+    text::print(b"equal and not shown: ");
+    text::print_count(all.unshown);
+    text::print(b"\nunread: ");
+    text::print_count(all.unread);
+    text::print(b"\n");
+    counts::print(all.compared, all.different);
 }

@@ -1,23 +1,22 @@
 -- `aes::preparation::prepare` meets its contract. Assumes nothing.
-use mathlib.Core.Path.{ap, sym, _∙_}
+use mathlib.Core.Path.{_≡_, ap, _∙_}
 use Prim.Native.Nat.{ℕ}
 use borrow.Author.Needs.{needs}
-use borrow.Author.Tests.{eqb-true}
 use denote.Ref.{now}
 use lib.ListN.{length}
 use Rattle.gf256.specs.Tables.{lent}
-use Rattle.shares.proofs.OutcomeLaws.{answered-refused, answered-done}
+use Rattle.shares.specs.Outcome.{took}
+use Rattle.shares.proofs.OutcomeLaws.{settled-refused, settled-done}
 use Rattle.cipher.specs.Cipher.{schedule-need, prepared-laid}
-use Rattle.lengths.specs.declared.Job.the-variants.{Preparation}
-use Rattle.aes.specs.Calls.{Prepare-outcome}
 use Rattle.lengths.proofs.LengthsLaws.{key-length}
-use Rattle.aes.proofs.CallsLaws.{key-long, keys-long, prepared-made}
-use Rattle.lengths.proofs.PreviewsLaws.{let-through}
+use Rattle.lengths.proofs.PreviewsLaws.{preparation-through}
+use Rattle.aes.specs.Calls.{Prepare-outcome}
+use Rattle.aes.proofs.CallsLaws.{keys-long, prepared-made}
 use Rattle.aes.proofs.preparation.prepare.Statement.{statement}
 use Rattle.aes.proofs.preparation.prepare.Tie as tie
 
-answer-requires : tie.Need-answer-requires
-answer-requires c κs = search needs
+preparation-answer-requires : tie.Need-preparation-answer-requires
+preparation-answer-requires c κs = search needs
 
 enum-told : tie.Need-enum-told
 enum-told c = search needs
@@ -27,12 +26,13 @@ enum-told-2 c = search needs
 
 returns : tie.Need-returns
 unfolding Prepare-outcome
-returns c = answered-refused _ _ _ _ _ _ _ _ _ (c .before .before .answer .ensures) _ (c .enum-told2 .given .1)
+returns c = settled-refused _ _ _ _ _ (c .before .before .preparation-answer .ensures) _ (c .enum-told2 .given .1)
 
 key-words-requires : tie.Need-key-words-requires
 key-words-requires c κs =
-    let a = c .before .before .before .before .before .before .args in
-    let-through Preparation (a .order) (length (now (a .key))) 0 (length (now (a .tape))) (length (now (a .output))) _ _ (c .before .before .answer .ensures) (c .enum-told .given .1) .order
+    let q = c .before .before in
+    let a = q .before .before .before .before .args in
+    preparation-through (a .order) (length (now (a .key))) (length (now (a .tape))) (length (now (a .output))) _ _ _ (q .preparation-answer .ensures) (c .enum-told .given .1) .order
 
 logs-requires : tie.Need-logs-requires
 logs-requires c κs = search needs
@@ -42,10 +42,15 @@ antilogs-requires c κs = search needs
 
 expand-core-requires : tie.Need-expand-core-requires
 expand-core-requires c κs =
-    let a = c .before .before .before .before .before .before .before .before .before .before .before .before .args in
-    let t = let-through Preparation (a .order) (length (now (a .key))) 0 (length (now (a .tape))) (length (now (a .output))) _ _ (c .before .before .before .before .before .before .before .before .answer .ensures) (c .before .before .before .before .before .before .enum-told .given .1) in
-    let w = c .before .before .before .before .before .key-words .ensures in
-    (t .order, rw (w .0) (t .some), w .1, rw (w .0) (key-long _ (a .order) _ (key-length (a .order) (length (now (a .key))) (t .some))), rw (w .0) (keys-long _ (a .order) _ (eqb-true _ _ (t .output))), rw (w .0) (t .drawn), lent (c .before .before .before .before .logs .ensures) (c .before .before .before .antilogs .ensures))
+    let antilogs = c .before .before .before in
+    let logs = antilogs .before in
+    let words = logs .before in
+    let told = words .before in
+    let q = told .before .before in
+    let a = q .before .before .before .before .args in
+    let t = preparation-through (a .order) (length (now (a .key))) (length (now (a .tape))) (length (now (a .output))) _ _ _ (q .preparation-answer .ensures) (told .enum-told .given .1) in
+    let w = words .key-words .ensures in
+    (t .order, rw (w .0) (t .some), w .1, rw (w .0) (key-length (a .order) (length (now (a .key))) (t .some)), rw (w .0) (keys-long _ (a .order) _ (t .output)), rw (w .0) (t .drawn), lent (logs .logs .ensures) (antilogs .antilogs .ensures))
 
 same-length : tie.Need-same-length
 same-length c = search needs
@@ -53,17 +58,22 @@ same-length c = search needs
 returns-2 : tie.Need-returns-2
 unfolding Prepare-outcome
 returns-2 c =
-    let a = c .before .before .before .before .before .before .before .before .before .before .before .before .before .before .before .args in
-    let t = let-through Preparation (a .order) (length (now (a .key))) 0 (length (now (a .tape))) (length (now (a .output))) _ _ (c .before .before .before .before .before .before .before .before .before .before .before .answer .ensures) (c .before .before .before .before .before .before .before .before .before .enum-told .given .1) in
-    let w = c .before .before .before .before .before .before .before .before .key-words .ensures .0 in
-    let made = c .before .before .expand-core .ensures in
-    answered-done _ _ _ _ _ _ _ _ _ (c .before .before .before .before .before .before .before .before .before .before .before .answer .ensures) _ _ _ (c .before .before .before .before .before .before .before .before .before .enum-told .given .1) (made .0 ∙ ap (λ (n : ℕ). schedule-need n (a .order)) w ∙ sym (t .counted)) (prepared-made _ (a .order) (now (a .key)) (now (a .tape)) _ (made .1) ∙ ap (λ (n : ℕ). prepared-laid n (a .order) (now (a .key)) (now (a .tape))) w)
+    let core = c .before .before in
+    let words = core .before .before .before .before .before .before in
+    let told = words .before in
+    let q = told .before .before in
+    let a = q .before .before .before .before .args in
+    let w = words .key-words .ensures .0 in
+    let made = core .expand-core .ensures in
+    settled-done _ _ _ _ _ (q .preparation-answer .ensures) _ _ _ (told .enum-told .given .1)
+    (ap took (made .0 ∙ ap (λ (n : ℕ). schedule-need n (a .order)) w))
+    (prepared-made _ (a .order) (now (a .key)) (now (a .tape)) _ (made .1) ∙ ap (λ (n : ℕ). prepared-laid n (a .order) (now (a .key)) (now (a .tape))) w)
 
 pub prepare-spec : {M : Type 1} → statement M
 prepare-spec =
     tie.close
     (tie.spec
-    answer-requires
+    preparation-answer-requires
     enum-told
     enum-told-2
     returns

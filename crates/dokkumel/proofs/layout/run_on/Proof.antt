@@ -1,13 +1,14 @@
 -- `dokkumel::layout::run_on` meets its contract. Assumes nothing.
 use mathlib.Core.Path.{sym, _∙_}
 use borrow.Author.Needs.{needs}
+use Rattle.xor.proofs.Tests.{not-false}
 use Rattle.shares.proofs.OutcomeLaws.{served-bounds}
 use Rattle.lengths.specs.Lengths.{four, six, eight}
 use Rattle.dokkumel.proofs.layout.run_on.Statement.{statement}
 use Rattle.dokkumel.proofs.layout.run_on.Tie as tie
 
-unserved-requires : tie.Need-unserved-requires
-unserved-requires c κs = search needs
+served-requires : tie.Need-served-requires
+served-requires c κs = search needs
 
 print-refused-requires : tie.Need-print-refused-requires
 print-refused-requires c κs = search needs
@@ -16,13 +17,13 @@ returns : tie.Need-returns
 returns c = search needs
 
 print-requires : tie.Need-print-requires
-print-requires c κs = (served-bounds (c .before .before .before .args .order) (sym (c .before .before .unserved .ensures) ∙ c .before .if1 .left) .1, four)
+print-requires c κs = (served-bounds (c .before .before .before .args .order) (sym (c .before .before .served .ensures) ∙ not-false _ (c .before .if1 .left)) .1, four)
 
 print-requires-2 : tie.Need-print-requires-2
-print-requires-2 c κs = (served-bounds (c .before .before .before .args .order) (sym (c .before .before .unserved .ensures) ∙ c .before .if1 .left) .1, six)
+print-requires-2 c κs = (served-bounds (c .before .before .before .args .order) (sym (c .before .before .served .ensures) ∙ not-false _ (c .before .if1 .left)) .1, six)
 
 print-requires-3 : tie.Need-print-requires-3
-print-requires-3 c κs = (served-bounds (c .before .before .before .args .order) (sym (c .before .before .unserved .ensures) ∙ c .before .if1 .left) .1, eight)
+print-requires-3 c κs = (served-bounds (c .before .before .before .args .order) (sym (c .before .before .served .ensures) ∙ not-false _ (c .before .if1 .left)) .1, eight)
 
 print-refused-requires-2 : tie.Need-print-refused-requires-2
 print-refused-requires-2 c κs = search needs
@@ -43,7 +44,7 @@ pub run-on-spec : {M : Type 1} → statement M
 run-on-spec =
     tie.close
     (tie.spec
-    unserved-requires
+    served-requires
     print-refused-requires
     returns
     print-requires

@@ -2,7 +2,7 @@
 use mathlib.Core.Path.{_≡_, ap, sym, _∙_}
 use Prim.Native.Nat.{ℕ}
 use borrow.Author.Needs.{needs}
-use Rattle.shares.specs.declared.Answer.{Answer}
+use Rattle.shares.specs.Outcome.{Outcome}
 use Rattle.dokkumel.specs.declared.previews.Route.{Route}
 use Rattle.dokkumel.specs.declared.previews.Route.the-variants.{Encrypt, Decrypt, Prepare, EncryptPrepared}
 use Rattle.dokkumel.specs.Previewed.{previewed}
@@ -10,7 +10,7 @@ use Rattle.dokkumel.proofs.previews.foretold.Statement.{statement}
 use Rattle.dokkumel.proofs.previews.foretold.Tie as tie
 
 -- the route is the one that was matched
-told : (w m : Route) (d k x t o : ℕ) (r : Answer) → r ≡ previewed m d k x t o → w ≡ m → r ≡ previewed w d k x t o
+told : (w m : Route) (d k x t o : ℕ) (r : Outcome) → r ≡ previewed m d k x t o → w ≡ m → r ≡ previewed w d k x t o
 told w m d k x t o r e h = e ∙ sym (ap (λ (n : Route). previewed n d k x t o) h)
 
 enum-told : tie.Need-enum-told

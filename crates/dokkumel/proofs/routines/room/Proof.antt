@@ -2,7 +2,7 @@
 use Prim.Native.Nat.{_+_}
 use native.Mathlib.Omega.{arith}
 use borrow.Author.Needs.{needs}
-use Rattle.shares.proofs.OutcomeLaws.{share-length-le}
+use Rattle.shares.proofs.LengthsLaws.{share-length-le}
 use Rattle.dokkumel.proofs.routines.room.Statement.{statement}
 use Rattle.dokkumel.proofs.routines.room.Tie as tie
 

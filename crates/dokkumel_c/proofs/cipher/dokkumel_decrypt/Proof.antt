@@ -7,14 +7,14 @@ use Rattle.dokkumel_c.proofs.cipher.dokkumel_decrypt.Tie as tie
 decrypt-requires : tie.Need-decrypt-requires
 decrypt-requires c κs = search needs
 
-give-requires : tie.Need-give-requires
-give-requires c κs = search needs
+returned-requires : tie.Need-returned-requires
+returned-requires c κs = search needs
 
 same-length : tie.Need-same-length
 same-length c = search needs
 
 returns : tie.Need-returns
-returns c = handed-on _ (c .before .before .before .before .decrypt .ensures) (c .give .ensures _)
+returns c = handed-on _ (c .before .before .before .before .decrypt .ensures) (c .returned .ensures _)
 
 pub dokkumel-decrypt-spec : {M : Type 1} → statement M
-dokkumel-decrypt-spec = tie.close (tie.spec decrypt-requires give-requires same-length returns)
+dokkumel-decrypt-spec = tie.close (tie.spec decrypt-requires returned-requires same-length returns)

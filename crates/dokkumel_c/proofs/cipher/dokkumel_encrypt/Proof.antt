@@ -7,14 +7,14 @@ use Rattle.dokkumel_c.proofs.cipher.dokkumel_encrypt.Tie as tie
 encrypt-requires : tie.Need-encrypt-requires
 encrypt-requires c κs = search needs
 
-give-requires : tie.Need-give-requires
-give-requires c κs = search needs
+returned-requires : tie.Need-returned-requires
+returned-requires c κs = search needs
 
 same-length : tie.Need-same-length
 same-length c = search needs
 
 returns : tie.Need-returns
-returns c = handed-on _ (c .before .before .before .before .encrypt .ensures) (c .give .ensures _)
+returns c = handed-on _ (c .before .before .before .before .encrypt .ensures) (c .returned .ensures _)
 
 pub dokkumel-encrypt-spec : {M : Type 1} → statement M
-dokkumel-encrypt-spec = tie.close (tie.spec encrypt-requires give-requires same-length returns)
+dokkumel-encrypt-spec = tie.close (tie.spec encrypt-requires returned-requires same-length returns)

@@ -7,14 +7,14 @@ use Rattle.dokkumel_c.proofs.cipher.dokkumel_sbox.Tie as tie
 masked-box-requires : tie.Need-masked-box-requires
 masked-box-requires c κs = search needs
 
-give-requires : tie.Need-give-requires
-give-requires c κs = search needs
+returned-requires : tie.Need-returned-requires
+returned-requires c κs = search needs
 
 same-length : tie.Need-same-length
 same-length c = search needs
 
 returns : tie.Need-returns
-returns c = handed-on _ (c .before .before .before .before .masked-box .ensures) (c .give .ensures _)
+returns c = handed-on _ (c .before .before .before .before .masked-box .ensures) (c .returned .ensures _)
 
 pub dokkumel-sbox-spec : {M : Type 1} → statement M
-dokkumel-sbox-spec = tie.close (tie.spec masked-box-requires give-requires same-length returns)
+dokkumel-sbox-spec = tie.close (tie.spec masked-box-requires returned-requires same-length returns)

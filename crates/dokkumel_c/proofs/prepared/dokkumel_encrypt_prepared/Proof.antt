@@ -7,14 +7,14 @@ use Rattle.dokkumel_c.proofs.prepared.dokkumel_encrypt_prepared.Tie as 
 encrypt-prepared-requires : tie.Need-encrypt-prepared-requires
 encrypt-prepared-requires c κs = search needs
 
-give-requires : tie.Need-give-requires
-give-requires c κs = search needs
+returned-requires : tie.Need-returned-requires
+returned-requires c κs = search needs
 
 same-length : tie.Need-same-length
 same-length c = search needs
 
 returns : tie.Need-returns
-returns c = handed-on _ (c .before .before .before .before .encrypt-prepared .ensures) (c .give .ensures _)
+returns c = handed-on _ (c .before .before .before .before .encrypt-prepared .ensures) (c .returned .ensures _)
 
 pub dokkumel-encrypt-prepared-spec : {M : Type 1} → statement M
-dokkumel-encrypt-prepared-spec = tie.close (tie.spec encrypt-prepared-requires give-requires same-length returns)
+dokkumel-encrypt-prepared-spec = tie.close (tie.spec encrypt-prepared-requires returned-requires same-length returns)

@@ -7,14 +7,14 @@ use Rattle.dokkumel_c.proofs.prepared.dokkumel_prepare.Tie as tie
 prepare-requires : tie.Need-prepare-requires
 prepare-requires c κs = search needs
 
-give-requires : tie.Need-give-requires
-give-requires c κs = search needs
+returned-requires : tie.Need-returned-requires
+returned-requires c κs = search needs
 
 same-length : tie.Need-same-length
 same-length c = search needs
 
 returns : tie.Need-returns
-returns c = handed-on _ (c .before .before .before .before .prepare .ensures) (c .give .ensures _)
+returns c = handed-on _ (c .before .before .before .before .prepare .ensures) (c .returned .ensures _)
 
 pub dokkumel-prepare-spec : {M : Type 1} → statement M
-dokkumel-prepare-spec = tie.close (tie.spec prepare-requires give-requires same-length returns)
+dokkumel-prepare-spec = tie.close (tie.spec prepare-requires returned-requires same-length returns)

@@ -7,14 +7,14 @@ use Rattle.dokkumel_c.proofs.product.dokkumel_product.Tie as tie
 masked-product-requires : tie.Need-masked-product-requires
 masked-product-requires c κs = search needs
 
-give-requires : tie.Need-give-requires
-give-requires c κs = search needs
+returned-requires : tie.Need-returned-requires
+returned-requires c κs = search needs
 
 same-length : tie.Need-same-length
 same-length c = search needs
 
 returns : tie.Need-returns
-returns c = handed-on _ (c .before .before .before .before .masked-product .ensures) (c .give .ensures _)
+returns c = handed-on _ (c .before .before .before .before .masked-product .ensures) (c .returned .ensures _)
 
 pub dokkumel-product-spec : {M : Type 1} → statement M
-dokkumel-product-spec = tie.close (tie.spec masked-product-requires give-requires same-length returns)
+dokkumel-product-spec = tie.close (tie.spec masked-product-requires returned-requires same-length returns)

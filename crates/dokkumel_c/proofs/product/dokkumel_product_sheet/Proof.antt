@@ -7,14 +7,14 @@ use Rattle.dokkumel_c.proofs.product.dokkumel_product_sheet.Tie as tie
 product-sheet-requires : tie.Need-product-sheet-requires
 product-sheet-requires c κs = search needs
 
-give-requires : tie.Need-give-requires
-give-requires c κs = search needs
+returned-requires : tie.Need-returned-requires
+returned-requires c κs = search needs
 
 same-length : tie.Need-same-length
 same-length c = search needs
 
 returns : tie.Need-returns
-returns c = handed-on _ (c .before .before .before .before .product-sheet .ensures) (c .give .ensures _)
+returns c = handed-on _ (c .before .before .before .before .product-sheet .ensures) (c .returned .ensures _)
 
 pub dokkumel-product-sheet-spec : {M : Type 1} → statement M
-dokkumel-product-sheet-spec = tie.close (tie.spec product-sheet-requires give-requires same-length returns)
+dokkumel-product-sheet-spec = tie.close (tie.spec product-sheet-requires returned-requires same-length returns)

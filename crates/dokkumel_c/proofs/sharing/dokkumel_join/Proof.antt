@@ -7,14 +7,14 @@ use Rattle.dokkumel_c.proofs.sharing.dokkumel_join.Tie as tie
 join-requires : tie.Need-join-requires
 join-requires c κs = search needs
 
-give-requires : tie.Need-give-requires
-give-requires c κs = search needs
+returned-requires : tie.Need-returned-requires
+returned-requires c κs = search needs
 
 same-length : tie.Need-same-length
 same-length c = search needs
 
 returns : tie.Need-returns
-returns c = handed-on _ (c .before .before .before .before .join .ensures) (c .give .ensures _)
+returns c = handed-on _ (c .before .before .before .before .join .ensures) (c .returned .ensures _)
 
 pub dokkumel-join-spec : {M : Type 1} → statement M
-dokkumel-join-spec = tie.close (tie.spec join-requires give-requires same-length returns)
+dokkumel-join-spec = tie.close (tie.spec join-requires returned-requires same-length returns)

@@ -7,14 +7,14 @@ use Rattle.dokkumel_c.proofs.sharing.dokkumel_split.Tie as tie
 split-requires : tie.Need-split-requires
 split-requires c κs = search needs
 
-give-requires : tie.Need-give-requires
-give-requires c κs = search needs
+returned-requires : tie.Need-returned-requires
+returned-requires c κs = search needs
 
 same-length : tie.Need-same-length
 same-length c = search needs
 
 returns : tie.Need-returns
-returns c = handed-on _ (c .before .before .before .before .split .ensures) (c .give .ensures _)
+returns c = handed-on _ (c .before .before .before .before .split .ensures) (c .returned .ensures _)
 
 pub dokkumel-split-spec : {M : Type 1} → statement M
-dokkumel-split-spec = tie.close (tie.spec split-requires give-requires same-length returns)
+dokkumel-split-spec = tie.close (tie.spec split-requires returned-requires same-length returns)

@@ -1,13 +1,16 @@
 -- `lengths::previews::preview_decrypt` meets its contract. Assumes nothing.
 use borrow.Author.Needs.{needs}
+use Rattle.shares.proofs.OutcomeLaws.{settled-same}
+use Rattle.lengths.specs.Previews.{Decrypt-preview}
 use Rattle.lengths.proofs.previews.preview_decrypt.Statement.{statement}
 use Rattle.lengths.proofs.previews.preview_decrypt.Tie as tie
 
-answer-requires : tie.Need-answer-requires
-answer-requires c κs = search needs
+single-answer-requires : tie.Need-single-answer-requires
+single-answer-requires c κs = search needs
 
 returns : tie.Need-returns
-returns c = c .answer .ensures
+unfolding Decrypt-preview
+returns c = settled-same _ _ _ _ (c .single-answer .ensures)
 
 pub preview-decrypt-spec : {M : Type 1} → statement M
-preview-decrypt-spec = tie.close (tie.spec answer-requires returns)
+preview-decrypt-spec = tie.close (tie.spec single-answer-requires returns)

@@ -1,20 +1,20 @@
-use Rattle.masking.proofs.TermsLaws.{product-need-last, row-counts, row-fits}
 -- `masking::product::take_pairs` meets its contract. Assumes nothing.
 use mathlib.Core.Path.{_≡_, refl, ap, sym, _∙_}
-use Prim.Native.Nat.{ℕ, _≤_, _+_, _-_}
+use Prim.Native.Nat.{ℕ, suc, _≤_, _+_, _-_}
 use native.Mathlib.Omega.{arith}
 use borrow.Author.Needs.{needs}
 use denote.Ref.{now}
 use lib.ListN.{length, drop}
 use Rattle.isw.specs.Place.{before-row, product-need}
 use Rattle.shares.proofs.WriteLaws.{part-rest}
+use Rattle.masking.proofs.TermsLaws.{product-need-last, row-counts, row-fits}
 use Rattle.masking.proofs.SumsLaws.{length-starts, Sums, sums-start, row-taken-sums, sums-all}
 use Rattle.masking.proofs.product.take_pairs.Statement.{statement}
 use Rattle.masking.proofs.product.take_pairs.Tie as tie
 
 abbrev Inv-loop : tie.InvT-loop
 Inv-loop logs antilogs d a b tape sums₀ drawn₀ i₀ sums drawn i =
-    (i ≤ d) × (drawn ≡ before-row (d + 1) i) × (before-row (d + 1) i ≤ product-need d) × (length sums ≡ d + 1) × Sums (d + 1) a b tape i sums
+    (i ≤ d) × (drawn ≡ before-row (suc d) i) × (before-row (suc d) i ≤ product-need d) × (length sums ≡ suc d) × Sums (suc d) a b tape i sums
 
 abbrev μ-loop : tie.MeasureT-loop
 μ-loop logs antilogs d a b tape sums₀ drawn₀ i₀ sums drawn i = d - i
@@ -78,7 +78,7 @@ loop-again c =
       ap (_+_ (l .drawn)) (t .0) ∙ r .1,
       r .2,
       c .before .sums .given ∙ l .inv .3,
-      rw (t .1) (row-taken-sums (v .d + 1) (now (v .a)) (now (v .b)) ts (l .i) (v .d - l .i) _ (l .sums) (r .3) f (omega arith) (l .inv .4)),
+      rw (t .1) (row-taken-sums (suc (v .d)) (now (v .a)) (now (v .b)) ts (l .i) (v .d - l .i) _ (l .sums) (r .3) f (omega arith) (l .inv .4)),
     )
 
 same-length : tie.Need-same-length Inv-loop μ-loop
@@ -89,7 +89,7 @@ returns c =
     let l = c .before .loop in
     let d = c .before .before .before .before .before .before .args .d in
     let e : l .i ≡ d = omega arith in
-    let z : l .drawn ≡ before-row (d + 1) d = rw e at (l .inv .1) in
+    let z : l .drawn ≡ before-row (suc d) d = rw e at (l .inv .1) in
     (z ∙ sym (product-need-last d), sums-all d _ _ _ _ (l .inv .3) (rw e at (l .inv .4)))
 
 pub take-pairs-spec : {M : Type 1} → statement M

@@ -12,7 +12,10 @@ affine-shares-requires : tie.Need-affine-shares-requires
 affine-shares-requires c κs = search needs
 
 power-core-requires : tie.Need-power-core-requires
-power-core-requires c κs = search needs
+power-core-requires c κs =
+    let affine = c .before .before .before .before in
+    let p = affine .before .before .before .before .before .pre in
+    (p .0, affine .affine-shares .kept .1 .1 .0 ∙ p .1, p .2, p .3, p .4)
 
 same-length : tie.Need-same-length
 same-length c = search needs

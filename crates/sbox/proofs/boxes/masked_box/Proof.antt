@@ -1,30 +1,21 @@
 -- `sbox::boxes::masked_box` meets its contract. Assumes nothing.
-use mathlib.Core.Path.{sym, _∙_}
-use native.Mathlib.Omega.{arith}
+use mathlib.Core.Path.{ap, _∙_}
 use borrow.Author.Needs.{needs}
 use denote.Ref.{now}
+use lib.ListN.{length}
 use Rattle.gf256.specs.Tables.{lent}
-use Rattle.shares.proofs.OutcomeLaws.{served-bounds, guarded-unserved, guarded-refused, guarded-done}
+use Rattle.shares.specs.Outcome.{took}
+use Rattle.shares.proofs.OutcomeLaws.{settled-refused, settled-done}
+use Rattle.shares.proofs.CallsLaws.{byte-answered, byte-through}
 use Rattle.sbox.specs.Calls.{Box-outcome}
-use Rattle.sbox.proofs.CallsLaws.{box-checked, box-taken}
 use Rattle.sbox.proofs.boxes.masked_box.Statement.{statement}
 use Rattle.sbox.proofs.boxes.masked_box.Tie as tie
 
-unserved-requires : tie.Need-unserved-requires
-unserved-requires c κs = search needs
+call-need-requires : tie.Need-call-need-requires
+call-need-requires c κs = search needs
 
-returns : tie.Need-returns
-unfolding Box-outcome
-returns c = guarded-unserved _ _ _ _ _ _ _ _ (sym (c .before .unserved .ensures) ∙ c .if1 .taken)
-
-add-n : tie.Need-add-n
-add-n c = let b = served-bounds _ (sym (c .before .unserved .ensures) ∙ c .if1 .left) in omega arith
-
-box-need-requires : tie.Need-box-need-requires
-box-need-requires c κs = served-bounds _ (sym (c .before .unserved .ensures) ∙ c .if1 .left) .1
-
-checked-requires : tie.Need-checked-requires
-checked-requires c κs = search needs
+byte-answer-requires : tie.Need-byte-answer-requires
+byte-answer-requires c κs = search needs
 
 enum-told : tie.Need-enum-told
 enum-told c = search needs
@@ -32,12 +23,15 @@ enum-told c = search needs
 enum-told-2 : tie.Need-enum-told-2
 enum-told-2 c = search needs
 
-returns-2 : tie.Need-returns-2
+returns : tie.Need-returns
 unfolding Box-outcome
-returns-2 c =
-    let s = c .before .before .before .before .before .before .before .before .before .args in
-    let e = box-checked (s .order) (now (s .input)) (now (s .tape)) (now (s .output)) _ _ (c .before .before .before .box-need .ensures) (c .before .before .checked .ensures) in
-    guarded-refused _ _ _ _ _ _ _ _ (sym (c .before .before .before .before .before .unserved .ensures) ∙ c .before .before .before .before .if1 .left) _ e _ (c .enum-told2 .given .1)
+returns c =
+    let q = c .before .before in
+    let v = q .before .before .before .before .before .args in
+    let e = byte-answered _ _ (v .order) (length (now (v .input))) (length (now (v .tape))) (length (now (v .output))) _
+    (q .before .call-need .ensures) (q .byte-answer .ensures)
+    in
+    settled-refused _ _ _ _ _ e _ (c .enum-told2 .given .1)
 
 logs-requires : tie.Need-logs-requires
 logs-requires c κs = search needs
@@ -47,38 +41,43 @@ antilogs-requires c κs = search needs
 
 box-core-requires : tie.Need-box-core-requires
 box-core-requires c κs =
-    let s = c .before .before .before .before .before .before .before .before .before .before .before .before .before .before .args in
-    let b = served-bounds (s .order) (sym (c .before .before .before .before .before .before .before .before .before .before .unserved .ensures) ∙ c .before .before .before .before .before .before .before .before .before .if1 .left) in
-    let e = box-checked (s .order) (now (s .input)) (now (s .tape)) (now (s .output)) _ _ (c .before .before .before .before .before .before .before .before .box-need .ensures) (c .before .before .before .before .before .before .before .checked .ensures) in
-    let k = box-taken (s .order) (now (s .input)) (now (s .tape)) (now (s .output)) _ _ e (c .before .before .before .before .before .enum-told .given .1) in
-    (b .1, k .0, k .1, k .2, lent (c .before .before .before .before .logs .ensures) (c .before .before .before .antilogs .ensures))
+    let antilogs = c .before .before .before in
+    let logs = antilogs .before in
+    let told = logs .before in
+    let q = told .before .before in
+    let v = q .before .before .before .before .before .args in
+    let e = byte-answered _ _ (v .order) (length (now (v .input))) (length (now (v .tape))) (length (now (v .output))) _
+    (q .before .call-need .ensures) (q .byte-answer .ensures)
+    in
+    let h = byte-through _ (v .order) _ _ _ _ _ e (told .enum-told .given .1) in
+    (h .order, h .input, h .output, h .drawn, lent (logs .logs .ensures) (antilogs .antilogs .ensures))
 
 same-length : tie.Need-same-length
 same-length c = search needs
 
-returns-3 : tie.Need-returns-3
+returns-2 : tie.Need-returns-2
 unfolding Box-outcome
-returns-3 c =
-    let s = c .before .before .before .before .before .before .before .before .before .before .before .before .before .before .before .before .before .args in
-    let e = box-checked (s .order) (now (s .input)) (now (s .tape)) (now (s .output)) _ _ (c .before .before .before .before .before .before .before .before .before .before .before .box-need .ensures) (c .before .before .before .before .before .before .before .before .before .before .checked .ensures) in
-    let k = box-taken (s .order) (now (s .input)) (now (s .tape)) (now (s .output)) _ _ e (c .before .before .before .before .before .before .before .before .enum-told .given .1) in
-    let b = c .before .before .box-core .ensures in
-    guarded-done _ _ _ _ _ _ _ _ (sym (c .before .before .before .before .before .before .before .before .before .before .before .before .before .unserved .ensures) ∙ c .before .before .before .before .before .before .before .before .before .before .before .before .if1 .left) _ e _ _ _ (c .before .before .before .before .before .before .before .before .enum-told .given .1) (b .0 ∙ sym (k .3)) (b .1)
+returns-2 c =
+    let core = c .before .before in
+    let told = core .before .before .before .before .before .before in
+    let q = told .before .before in
+    let v = q .before .before .before .before .before .args in
+    let e = byte-answered _ _ (v .order) (length (now (v .input))) (length (now (v .tape))) (length (now (v .output))) _
+    (q .before .call-need .ensures) (q .byte-answer .ensures)
+    in
+    settled-done _ _ _ _ _ e _ _ _ (told .enum-told .given .1) (ap took (core .box-core .ensures .0)) (core .box-core .ensures .1)
 
 pub masked-box-spec : {M : Type 1} → statement M
 masked-box-spec =
     tie.close
     (tie.spec
-    unserved-requires
-    returns
-    add-n
-    box-need-requires
-    checked-requires
+    call-need-requires
+    byte-answer-requires
     enum-told
     enum-told-2
-    returns-2
+    returns
     logs-requires
     antilogs-requires
     box-core-requires
     same-length
-    returns-3)
+    returns-2)

@@ -14,7 +14,8 @@ use Rattle.sheets.proofs.sheet.put_row.Statement.{statement}
 use Rattle.sheets.proofs.sheet.put_row.Tie as tie
 
 abbrev Inv-loop : tie.InvT-loop
-Inv-loop w tape cross half crossed back out₀ m₀ out m = (m ≤ w) × (out ≡ front (five-rows tape cross half crossed back m) out₀) × (length out ≡ length out₀)
+Inv-loop w tape cross half crossed back out₀ m₀ out m =
+    (m ≤ w) × (out ≡ front (five-rows tape cross half crossed back m) out₀) × (length out ≡ length out₀)
 
 abbrev μ-loop : tie.MeasureT-loop
 μ-loop w tape cross half crossed back out₀ m₀ out m = w - m
@@ -62,11 +63,14 @@ loop-less c = search needs
 loop-again : tie.Need-loop-again Inv-loop μ-loop
 unfolding at
 loop-again c =
-    let l = c .before .before .before .before .before .before .before .before .before .before .loop in
-    let s = c .before .before .before .before .before .before .before .before .before .before .before .before .before .before .before .before .before .args in
+    let c₂ = c .before .before in
+    let c₉ = c₂ .before .before .before .before .before .before .before in
+    let c₁₀ = c₉ .before in
+    let l = c₁₀ .loop in
+    let s = c₁₀ .before .before .before .before .before .before .before .args in
     let e = length-five-rows (now (s .tape)) (now (s .cross)) (now (s .half)) (now (s .crossed)) (now (s .back)) (l .m) in (
-      omega (arith, c .before .before .before .before .before .before .before .before .before),
-      front-part _ _ _ _ _ _ _ (l .inv .1) e (omega (arith, e, c .before .before .before .before .before .before .before .before .before)) (c .before .before .put-pair .ensures)
+      omega (arith, c₉),
+      front-part _ _ _ _ _ _ _ (l .inv .1) e (omega (arith, e, c₉)) (c₂ .put-pair .ensures)
           (five-rows-more (now (s .tape)) (now (s .cross)) (now (s .half)) (now (s .crossed)) (now (s .back)) (l .m)),
       c .before .out .given .1 ∙ l .inv .2,
     )

@@ -1,5 +1,6 @@
 -- `sheets::sheet::sheet_core` meets its contract. Assumes nothing.
-use mathlib.Core.Path.{refl}
+use mathlib.Core.Path.{refl, _∙_}
+use native.Mathlib.Numerals.{add-one}
 use native.Mathlib.Omega.{arith}
 use borrow.Author.Needs.{needs}
 use Rattle.shares.proofs.WriteLaws.{length-part-first}
@@ -24,7 +25,7 @@ slice-aggregate-sheet-with c = search needs
 sheet-with-requires : tie.Need-sheet-with-requires
 sheet-with-requires c κs =
     let p = c .before .before .before .before .before .before .before .pre in
-    (p .0, p .1, p .2, p .3, length-part-first _ _ (omega arith), refl, p .4, p .5)
+    (p .0, length-part-first _ _ (omega (arith, p .0 .order)) ∙ add-one _, refl, p .1, p .2)
 
 same-length : tie.Need-same-length
 same-length c = search needs

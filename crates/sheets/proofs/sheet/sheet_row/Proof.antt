@@ -30,8 +30,9 @@ take-row-requires : tie.Need-take-row-requires
 take-row-requires c κs =
     let s = c .before .before .before .before .before .before .before .before .before .before .before .before in
     let p = s .pre in
-    let e : s .args .w ≤ 8 = omega arith in
-    (p .0, p .1, p .2, p .3, p .4, e, e, e, e, e, p .5, p .8)
+    let f = p .0 in
+    let e : s .args .w ≤ 8 = omega (arith, f .few) in
+    (f .some, f .few, f .left, f .right, f .drawn, e, e, e, e, e, f .summed, p .3)
 
 slice-aggregate-put-row : tie.Need-slice-aggregate-put-row
 slice-aggregate-put-row c = search needs
@@ -58,7 +59,8 @@ put-sums-requires c κs =
     let c₂₃ = c₁₃ .before .before .before .before .before .before .before .before .before .before in
     let s = c₂₃ .before .before .before .before .before .before .before .before in
     let p = s .pre in
-    (p .1, omega (arith, p, c₁₃ .own2 .given), omega (arith, p, c₁₂ .sums .given), p .6)
+    let f = p .0 in
+    (f .few, omega (arith, f .few, c₁₃ .own2 .given), omega (arith, f .summed, c₁₂ .sums .given), p .1)
 
 same-length : tie.Need-same-length
 same-length c = search needs

@@ -1,8 +1,8 @@
-use Rattle.masking.proofs.TermsLaws.{product-need-last, row-counts, row-fits, row-room}
 -- `sheets::sheet::sheet_rows` meets its contract. Assumes nothing.
 use mathlib.Core.Path.{_≡_, refl, ap, sym, _∙_}
 use mathlib.Core.List.{List}
-use Prim.Native.Nat.{ℕ, _≤_, _+_, _-_}
+use Prim.Native.Nat.{ℕ, suc, _≤_, _+_, _-_}
+use native.Mathlib.Numerals.{add-one}
 use native.Mathlib.Omega.{arith}
 use borrow.Author.Needs.{needs}
 use denote.Ref.{now}
@@ -12,6 +12,7 @@ use Rattle.isw.specs.Place.{before-row, product-need}
 use Rattle.shares.specs.Writes.{front}
 use Rattle.shares.proofs.WriteLaws.{part-rest}
 use Rattle.sheets.specs.Parts.{pairs-before}
+use Rattle.masking.proofs.TermsLaws.{product-need-last, row-counts, row-fits, row-room}
 use Rattle.masking.proofs.SumsLaws.{length-starts}
 use Rattle.sheets.proofs.PartsLaws.{Gathered, gathered-start, gathered-row, gathered-all}
 use Rattle.sheets.proofs.SheetParts.{few-drawn, pairs-written, pairs-last}
@@ -20,8 +21,8 @@ use Rattle.sheets.proofs.sheet.sheet_rows.Tie as tie
 
 abbrev Inv-loop : tie.InvT-loop
 Inv-loop logs antilogs d a b tape sums₀ table₀ out₀ n drawn₀ i₀ sums table out drawn i =
-    (i ≤ d) × (drawn ≡ before-row (d + 1) i) × (before-row (d + 1) i ≤ product-need d)
-    × (out ≡ front (pairs-before (d + 1) a b tape i) out₀) × (length out ≡ length out₀) × (length sums ≡ d + 1) × (length table ≡ 81)
+    (i ≤ d) × (drawn ≡ before-row (suc d) i) × (before-row (suc d) i ≤ product-need d)
+    × (out ≡ front (pairs-before (suc d) a b tape i) out₀) × (length out ≡ length out₀) × (length sums ≡ suc d) × (length table ≡ 81)
     × Gathered d a b tape i sums table
 
 abbrev μ-loop : tie.MeasureT-loop
@@ -48,9 +49,9 @@ loop-holds c =
       search needs,
       refl,
       refl,
-      length-starts _ _ _ _ e,
+      length-starts _ _ _ _ e ∙ add-one (v .d),
       search needs,
-      gathered-start (v .d) (now (v .a)) (now (v .b)) (now (v .tape)) _ (now (v .table)) (s .pre .0) (s .pre .5) _ e
+      gathered-start (v .d) (now (v .a)) (now (v .b)) (now (v .tape)) _ (now (v .table)) (s .pre .0 .order) (s .pre .2) _ _ (add-one (v .d)) e
           (c .before .before .put-starts .ensures),
     )
 
@@ -86,13 +87,14 @@ sheet-row-requires c κs =
     let l = c₅ .loop in
     let v = s .args in
     let p = s .pre in
+    let f = p .0 in
     let h = c₄ .loop-test .taken in
     let a = now (v .a) in
     let b = now (v .b) in
     let ts = now (v .tape) in
-    let r = row-fits (v .d) (l .i) (l .drawn) h (l .inv .1) a b ts (l .sums) (p .0) (p .1) (p .2) (p .3) (l .inv .5) in
-    let o = row-room (v .d) (l .i) (l .drawn) h (l .inv .1) (now (v .out)) (l .out) (p .6) (l .inv .4) in
-    (r .0, r .1, r .2, r .3, r .4, r .5, l .inv .6, o .1, p .7)
+    let r = row-fits (v .d) (l .i) (l .drawn) h (l .inv .1) a b ts (l .sums) (f .order) (f .left) (f .right) (f .drawn) (l .inv .5) in
+    let o = row-room (v .d) (l .i) (l .drawn) h (l .inv .1) (now (v .out)) (l .out) (p .3) (l .inv .4) in
+    (record { some = r .0; few = r .1; left = r .2; right = r .3; drawn = r .4; summed = r .5 }, l .inv .6, o .1, p .4)
 
 add-drawn : tie.Need-add-drawn Inv-loop μ-loop
 add-drawn c =
@@ -102,11 +104,15 @@ add-drawn c =
     let s = c₁₂ .before .before .before .before .before .before .before .before .before .before .before .before .before .before .before .before in
     let l = c₁₂ .loop in
     let r = row-counts (s .args .d) (l .i) (l .drawn) (c₁₁ .loop-test .taken) (l .inv .1) in
-    let few = few-drawn (s .args .d) (s .pre .0) in
+    let few = few-drawn (s .args .d) (s .pre .0 .order) in
     omega (arith, c₆ .sheet-row .ensures .0)
 
 add-i : tie.Need-add-i Inv-loop μ-loop
-add-i c = search needs
+add-i c =
+    let c₁₁ = c .before .before .before .before .before .before .before .before .before .before .before in
+    let c₁₂ = c₁₁ .before in
+    let s = c₁₂ .before .before .before .before .before .before .before .before .before .before .before .before .before .before .before .before in
+    omega (arith, c₁₁ .loop-test .taken, s .pre .0 .order)
 
 loop-less : tie.Need-loop-less Inv-loop μ-loop
 loop-less c = search needs
@@ -126,17 +132,17 @@ loop-again c =
     let ts = now (v .tape) in
     let h = c₁₁ .loop-test .taken in
     let r = row-counts (v .d) (l .i) (l .drawn) h (l .inv .1) in
-    let o = row-room (v .d) (l .i) (l .drawn) h (l .inv .1) (now (v .out)) (l .out) (s .pre .6) (l .inv .4) in
+    let o = row-room (v .d) (l .i) (l .drawn) h (l .inv .1) (now (v .out)) (l .out) (s .pre .3) (l .inv .4) in
     let f = part-rest ts (l .drawn) ∙ ap (λ (k : ℕ). drop k ts) (l .inv .1) in (
       r .0,
       ap (_+_ (l .drawn)) (t .0) ∙ r .1,
       r .2,
-      pairs-written (v .d + 1) (now (v .a)) (now (v .b)) ts (l .i) (l .drawn) w (l .out) _ (now (v .out))
+      pairs-written (suc (v .d)) (now (v .a)) (now (v .b)) ts (l .i) (l .drawn) w (l .out) _ (now (v .out))
           (l .inv .1) (r .3) (o .0) (l .inv .3) (t .1),
       c .before .out .given .1 ∙ l .inv .4,
       c₅ .sums2 .given ∙ l .inv .5,
       c₃ .table2 .given ∙ l .inv .6,
-      gathered-row (v .d) (now (v .a)) (now (v .b)) ts (l .sums) (l .table) (s .pre .0) (l .inv .6) (l .i) w _ _ _ (r .3) f
+      gathered-row (v .d) (now (v .a)) (now (v .b)) ts (l .sums) (l .table) (s .pre .0 .order) (l .inv .6) (l .i) w _ _ _ (r .3) f
           (l .inv .5) (t .2) (t .3) (l .inv .7),
     )
 
@@ -144,13 +150,13 @@ same-length : tie.Need-same-length Inv-loop μ-loop
 same-length c =
     let c₁₀ = c .before .before .before .before .before .before .before .before .before .before in
     let c₁₇ = c₁₀ .before .before .before .before .before .before .before in
-    c .before .loop .inv .5 ∙ sym (c₁₇ .pre .4)
+    c .before .loop .inv .5 ∙ sym (c₁₇ .pre .1)
 
 same-length-2 : tie.Need-same-length-2 Inv-loop μ-loop
 same-length-2 c =
     let c₁₀ = c .before .before .before .before .before .before .before .before .before .before in
     let c₁₇ = c₁₀ .before .before .before .before .before .before .before in
-    c .before .loop .inv .6 ∙ sym (c₁₇ .pre .5)
+    c .before .loop .inv .6 ∙ sym (c₁₇ .pre .2)
 
 same-length-3 : tie.Need-same-length-3 Inv-loop μ-loop
 same-length-3 c = search needs
@@ -163,7 +169,7 @@ returns c =
     let v = c₁₇ .args in
     let d = v .d in
     let e : l .i ≡ d = omega arith in
-    let z : l .drawn ≡ before-row (d + 1) d = rw e at (l .inv .1) in
+    let z : l .drawn ≡ before-row (suc d) d = rw e at (l .inv .1) in
     let a = now (v .a) in
     let b = now (v .b) in
     let ts = now (v .tape) in (

@@ -1,4 +1,5 @@
 -- `sheets::sheet::sheet_with` meets its contract. Assumes nothing.
+use native.Mathlib.Numerals.{add-one}
 use native.Mathlib.Omega.{arith}
 use borrow.Author.Needs.{needs}
 use denote.Ref.{now}
@@ -58,21 +59,21 @@ sheet-rows-requires c κs =
     let c₈ = c₄ .before .before .before .before in
     let c₁₇ = c₈ .before .before .before .before .before .before .before .before .before in
     let p = c₁₇ .pre in
-    (p .0, p .1, p .2, p .3, p .4, p .5, omega (arith, p, c₈ .out .given, c₄ .out2 .given, place-count-parts (c₁₇ .args .d)), p .7)
+    (p .0, p .1, p .2, omega (arith, p, c₈ .out .given, c₄ .out2 .given, place-count-parts (c₁₇ .args .d)), p .4)
 
 mul-behind : tie.Need-mul-behind
 mul-behind c =
     let c₆ = c .before .before .before .before .before .before in
     let c₁₆ = c₆ .before .before .before .before .before .before .before .before .before .before in
     let s = c₁₆ .before .before .before .before .before .before .before .before in
-    omega (arith, few-drawn (s .args .d) (s .pre .0), c₆ .sheet-rows .ensures .0, s .pre .0)
+    omega (arith, few-drawn (s .args .d) (s .pre .0 .order), c₆ .sheet-rows .ensures .0, s .pre .0 .order)
 
 add-behind : tie.Need-add-behind
 add-behind c =
     let c₆ = c .before .before .before .before .before .before in
     let c₁₆ = c₆ .before .before .before .before .before .before .before .before .before .before in
     let s = c₁₆ .before .before .before .before .before .before .before .before in
-    omega (arith, few-drawn (s .args .d) (s .pre .0), c₆ .sheet-rows .ensures .0, s .pre .0)
+    omega (arith, few-drawn (s .args .d) (s .pre .0 .order), c₆ .sheet-rows .ensures .0, s .pre .0 .order)
 
 sub-put-table : tie.Need-sub-put-table
 sub-put-table c =
@@ -128,8 +129,9 @@ returns c =
     let v = s .args in
     let f = c₁₁ .sheet-rows in (
       f .ensures .0,
-      sheet-written (v .d) _ _ (now (v .tape)) (s .pre .1) (s .pre .2) (f .result) _ _ _ _ _ (s .pre .6) (f .ensures .0)
-          (c₂₁ .put .ensures) (c₁₇ .put2 .ensures) (f .ensures .1) (rw (f .ensures .2) at (c .before .before .put-table .ensures)),
+      sheet-written (v .d) _ _ (now (v .tape)) (s .pre .0 .left) (s .pre .0 .right) _ (f .result) _ _ _ _ _ _
+          (add-one (v .d)) (s .pre .3) (f .ensures .0) (f .ensures .2) (c₂₁ .put .ensures) (c₁₇ .put2 .ensures) (f .ensures .1)
+          (c .before .before .put-table .ensures),
     )
 
 pub sheet-with-spec : {M : Type 1} → statement M

@@ -1,4 +1,5 @@
 -- `state::substitution::sub_place` meets its contract. Assumes nothing.
+use mathlib.Core.Path.{_∙_}
 use Rattle.state.proofs.SubLaws.{sub-made}
 use borrow.Author.Needs.{needs}
 use Rattle.state.proofs.substitution.sub_place.Statement.{statement}
@@ -8,7 +9,10 @@ gather-requires : tie.Need-gather-requires
 gather-requires c κs = search needs
 
 box-by-requires : tie.Need-box-by-requires
-box-by-requires c κs = search needs
+box-by-requires c κs =
+    let g = c .before .before .before .before in
+    let p = g .before .before .before .before .before .before .before .pre in
+    (p .0, g .gather .kept .1 .1 .1 .1 .0 ∙ p .3, p .4, p .5, p .6)
 
 scatter-requires : tie.Need-scatter-requires
 scatter-requires c κs = search needs

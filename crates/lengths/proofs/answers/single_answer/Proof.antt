@@ -1,0 +1,61 @@
+-- `lengths::answers::single_answer` meets its contract. Assumes nothing.
+use mathlib.Core.Path.{_≡_, sym, ap, _∙_, subst}
+use Prim.Native.Nat.{ℕ, _<_}
+use borrow.Author.Needs.{needs}
+use Rattle.xor.proofs.Tests.{not-true, not-false}
+use Rattle.shares.specs.Outcome.{answered, took}
+use Rattle.shares.proofs.OutcomeLaws.{answered-here, served-bounds}
+use Rattle.cipher.specs.Cipher.{cipher-need}
+use Rattle.lengths.specs.Lengths.{Key-size}
+use Rattle.lengths.specs.Previews.{Block-tests}
+use Rattle.lengths.proofs.LengthsLaws.{key-sized}
+use Rattle.lengths.proofs.PreviewsLaws.{keyed-none, keyed-some, some-words, block-answered}
+use Rattle.lengths.proofs.answers.single_answer.Statement.{statement}
+use Rattle.lengths.proofs.answers.single_answer.Tie as tie
+
+served-requires : tie.Need-served-requires
+served-requires c κs = search needs
+
+returns : tie.Need-returns
+returns c = answered-here _ _ _ _ (sym (c .before .served .ensures) ∙ not-true _ (c .if1 .taken))
+
+key-words-requires : tie.Need-key-words-requires
+key-words-requires c κs = served-bounds _ (sym (c .before .served .ensures) ∙ not-false _ (c .if1 .left)) .1
+
+returns-2 : tie.Need-returns-2
+returns-2 c =
+    let w = c .before in
+    let o = w .before in
+    keyed-none _ _ _ _ _ (w .key-words .ensures .0) (sym (o .before .served .ensures) ∙ not-false _ (o .if1 .left)) (c .if2 .taken)
+
+cipher-need-requires : tie.Need-cipher-need-requires
+cipher-need-requires c κs =
+    let w = c .before in
+    let o = w .before in
+    let a = o .before .before .args in
+    let e = w .key-words .ensures .0 in
+    (served-bounds (a .order) (sym (o .before .served .ensures) ∙ not-false _ (o .if1 .left)) .1, subst Key-size (sym e) (key-sized (a .order) (a .key) (some-words _ _ e (c .if2 .left))))
+
+block-answer-requires : tie.Need-block-answer-requires
+block-answer-requires c κs =
+    let o = c .before .before .before in
+    served-bounds _ (sym (o .before .served .ensures) ∙ not-false _ (o .if1 .left)) .1
+
+returns-3 : tie.Need-returns-3
+returns-3 c =
+    let n = c .before in
+    let k = n .before in
+    let w = k .before in
+    let o = w .before in
+    let a = o .before .before .args in
+    let e = w .key-words .ensures .0 in
+    let f = c .block-answer .ensures
+    ∙ ap (λ (m : ℕ). answered (Block-tests m (a .order) (a .input) (a .tape) (a .output)) (took m)) (n .cipher-need .ensures)
+    in
+    keyed-some _ _ _ _ _ _ e (sym (o .before .served .ensures) ∙ not-false _ (o .if1 .left)) (k .if2 .left)
+    (block-answered _ _ (a .order) (a .input) (a .tape) (a .output) (λ m. cipher-need m (a .order)) _ e f)
+
+pub single-answer-spec : {M : Type 1} → statement M
+single-answer-spec =
+    tie.close
+    (tie.spec served-requires returns key-words-requires returns-2 cipher-need-requires block-answer-requires returns-3)

@@ -1,0 +1,84 @@
+-- What is known of a call that its tests let through, by the names of the tests. Assumes nothing.
+use mathlib.Core.Path.{_≡_, refl, sym, ap, _∙_}
+use mathlib.Core.Bool.{Bool, true, false}
+use mathlib.Core.List.{List, [], _∷_}
+use Prim.Native.Nat.{ℕ, suc, _*_, _≤_, _<_}
+use lib.Dec.{ltb, eqb}
+use borrow.Author.Tests.{eqb-true, ltb-true}
+use Rattle.shares.specs.declared.Refusal.the-variants.{Order, Input, Output, Tape}
+use Rattle.shares.specs.declared.Count.{Count}
+use Rattle.shares.specs.declared.Answer.{Answer}
+use Rattle.shares.specs.declared.Answer.the-variants.{Taken}
+use Rattle.shares.specs.Outcome.{Test, test, answered, took, served, reaches, share-length}
+use Rattle.shares.specs.Strings.{split-need}
+use Rattle.shares.specs.Calls.{Byte-tests, Split-tests, Join-tests}
+use Rattle.shares.proofs.OutcomeLaws.{Passed, _and_, answered-here, answered-taken, served-bounds, reaches-le}
+
+-- ---- the shares of one byte
+
+-- the need counts only where the order is served
+pub byte-answered : (need′ need d x t o : ℕ) (a : Answer) → (served d ≡ true → need′ ≡ need)
+    → a ≡ answered (Byte-tests need′ d x t o) (took need′) → a ≡ answered (Byte-tests need d x t o) (took need)
+byte-answered need′ need d x t o a same e = e ∙ go (served d) refl
+  where
+    go : (u : Bool) → served d ≡ u → answered (Byte-tests need′ d x t o) (took need′) ≡ answered (Byte-tests need d x t o) (took need)
+    go true p = ap (λ (n : ℕ). answered (Byte-tests n d x t o) (took n)) (same p)
+    go false p = sym (answered-here Order (served d) _ (took need′) p) ∙ answered-here Order (served d) _ (took need) p
+
+pub record Byte-through (need d x t o : ℕ) : Type 0 where
+  pub order : d ≤ 8
+  pub input : x ≡ suc d
+  pub output : o ≡ suc d
+  pub drawn : need ≤ t
+
+pub byte-passed : (need d x t o : ℕ) → Passed (Byte-tests need d x t o) → Byte-through need d x t o
+byte-passed need d x t o (u and i and r and n and p) =
+    record { order = served-bounds d u .1; input = eqb-true x (suc d) i; output = eqb-true o (suc d) r; drawn = reaches-le t need n }
+
+pub byte-through : (need d x t o : ℕ) (a : Answer) (c : Count) → a ≡ answered (Byte-tests need d x t o) (took need) → a ≡ Taken c
+    → Byte-through need d x t o
+byte-through need d x t o a c e f = byte-passed need d x t o (answered-taken _ _ c (sym e ∙ f) .0)
+
+-- ---- split and join
+
+-- the tests of a splitting on a share's length that was found
+abbrev split-tests : (l d t o : ℕ) → List Test
+split-tests l d t o = test Order (served d) ∷ test Input (ltb 0 l) ∷ test Output (eqb o (suc d * l)) ∷ test Tape (reaches t (d * l)) ∷ []
+
+pub split-answered : (l d x t o : ℕ) (a : Answer) → l ≡ share-length 1 x → a ≡ answered (split-tests l d t o) (took (d * l))
+    → a ≡ answered (Split-tests d x t o) (took (split-need d (share-length 1 x)))
+unfolding split-need
+split-answered l d x t o a e f = f ∙ ap (λ (n : ℕ). answered (split-tests n d t o) (took (d * n))) e
+
+-- the same of a joining
+abbrev join-tests : (l d o : ℕ) → List Test
+join-tests l d o = test Order (served d) ∷ test Input (ltb 0 l) ∷ test Output (eqb o l) ∷ []
+
+pub join-answered : (l d x o : ℕ) (a : Answer) → l ≡ share-length (suc d) x → a ≡ answered (join-tests l d o) (took 0)
+    → a ≡ answered (Join-tests d x o) (took 0)
+join-answered l d x o a e f = f ∙ ap (λ (n : ℕ). answered (join-tests n d o) (took 0)) e
+
+pub record Split-through (d x t o : ℕ) : Type 0 where
+  pub order : d ≤ 8
+  pub input : 0 < share-length 1 x
+  pub output : o ≡ suc d * share-length 1 x
+  pub drawn : split-need d (share-length 1 x) ≤ t
+
+pub split-passed : (d x t o : ℕ) → Passed (Split-tests d x t o) → Split-through d x t o
+split-passed d x t o (u and i and r and n and p) =
+    record { order = served-bounds d u .1; input = ltb-true 0 (share-length 1 x) i; output = eqb-true o _ r; drawn = reaches-le t _ n }
+
+pub split-through : (d x t o : ℕ) (a : Answer) (k c : Count) → a ≡ answered (Split-tests d x t o) k → a ≡ Taken c → Split-through d x t o
+split-through d x t o a k c e f = split-passed d x t o (answered-taken _ k c (sym e ∙ f) .0)
+
+pub record Join-through (d x o : ℕ) : Type 0 where
+  pub order : d ≤ 8
+  pub input : 0 < share-length (suc d) x
+  pub output : o ≡ share-length (suc d) x
+
+pub join-passed : (d x o : ℕ) → Passed (Join-tests d x o) → Join-through d x o
+join-passed d x o (u and i and r and p) =
+    record { order = served-bounds d u .1; input = ltb-true 0 (share-length (suc d) x) i; output = eqb-true o _ r }
+
+pub join-through : (d x o : ℕ) (a : Answer) (k c : Count) → a ≡ answered (Join-tests d x o) k → a ≡ Taken c → Join-through d x o
+join-through d x o a k c e f = join-passed d x o (answered-taken _ k c (sym e ∙ f) .0)

@@ -1,0 +1,32 @@
+-- What the routines of a sheet ask of the factors and the tape. Assumes nothing: these are definitions.
+-- Inner contracts: no document decides them.
+use mathlib.Core.Path.{_≡_}
+use mathlib.Core.List.{List}
+use Prim.Native.Nat.{ℕ, suc, _+_, _≤_, _<_}
+use lib.ListN.{length}
+use Rattle.isw.specs.Place.{product-need}
+
+-- a product of order d: both factors have n shares, and the tape has what it draws
+pub record Factors-fit (d : ℕ) (a b tape : List ℕ) : Type 0 where
+  pub order : d ≤ 8
+  pub left : length a ≡ suc d
+  pub right : length b ≡ suc d
+  pub drawn : product-need d ≤ length tape
+
+-- row i of its pairs, with the w shares behind it: at least one, and each has its byte in both factors, on the tape and among the sums
+pub record Row-fits (i w : ℕ) (a b tape sums : List ℕ) : Type 0 where
+  pub some : 0 < w
+  pub few : i + 1 + w ≤ 9
+  pub left : i + 1 + w ≤ length a
+  pub right : i + 1 + w ≤ length b
+  pub drawn : w ≤ length tape
+  pub summed : i + 1 + w ≤ length sums
+
+-- the five rows that hold the bytes of w pairs
+pub record Rows-fit (w : ℕ) (tape cross half crossed back : List ℕ) : Type 0 where
+  pub few : w ≤ 8
+  pub drawn : w ≤ length tape
+  pub crosses : w ≤ length cross
+  pub halves : w ≤ length half
+  pub crosseds : w ≤ length crossed
+  pub backs : w ≤ length back
