@@ -1,10 +1,14 @@
 pub mod StringLaws
 pub mod StatesLaws
 pub mod FipsLaws
+pub mod DrawingLaws
+pub mod DrawingLoops
+pub mod SubsLaws
 pub mod CipherLaws
+pub mod NeedLaws
+pub mod RoundsLaws
 pub mod Accuracy
 pub mod InverseCipherLaws
-pub mod NeedLaws
 pub mod SurplusLaws
 pub mod SmallValues
 pub mod Example

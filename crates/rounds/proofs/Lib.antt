@@ -1,1 +1,2 @@
 pub mod RoundLaws
+pub mod BlockLaws

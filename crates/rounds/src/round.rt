@@ -1,13 +1,14 @@
 // One round over shares, of encryption or decryption. FIPS 197, 5.1 and 5.3, decides the order of its steps.
-// The keys have m bytes in each share; x, y and t are scratch.
+// The keys have m bytes in each share.
 ghost use mathlib.Core.Path.{_≡_};
 ghost use Prim.Native.Nat.{suc, _*_, _+_, _≤_};
 ghost use lib.ListN.{length};
 ghost use Rattle.gf256.specs.Tables.{Tables};
 ghost use Rattle.shares.specs.Strings.{parts, laid};
 ghost use Rattle.cipher.specs.Cipher.{round-need};
+ghost use Rattle.cipher.specs.Rounds.{round-of, key-of};
 ghost use Rattle.rounds.specs.Fits.{Round-fits};
-ghost use Rattle.rounds.specs.Directions.{shifted-of, keyed-of, round-of, key-of};
+ghost use Rattle.rounds.specs.Directions.{shifted-of, keyed-of};
 use gf256::Antilogs;
 use gf256::Direction;
 use gf256::Logs;
@@ -31,13 +32,11 @@ fn sub_and_shift(
     which: Direction,
     d: usize,
     tape: &[u8],
-    x: &mut [u8],
-    y: &mut [u8],
-    t: &mut [u8],
     s: &mut [u8],
 ) -> usize
-    requires { ⌜ (d ≤ 8) × (round-need d ≤ length (now tape)) × (length (now x) ≡ suc d) × (length (now y) ≡ suc d) × (length (now t) ≡ 16) × (length (now s) ≡ suc d * 16) × Tables (now logs) (now antilogs) ⌝ }
-    ensures { λ q. ⌜ (q ≡ round-need d) × (now (s .exit) ≡ laid (shifted-of which d (parts (suc d) 16 (now (s .entry))) (now (tape .entry)))) ⌝ }
+    requires { ⌜ (d ≤ 8) × (round-need d ≤ length (now tape)) × (length (now s) ≡ suc d * 16) × Tables (now logs) (now antilogs) ⌝ }
+    ensures { λ q. ⌜ (q ≡ round-need d)
+        × (now (s .exit) ≡ laid (shifted-of which d (parts (suc d) 16 (now (s .entry))) (now (tape .entry)))) ⌝ }
 {
     match which {
         Direction::Forward => {
@@ -47,41 +46,32 @@ fn sub_and_shift(
                 Direction::Forward,
                 d,
                 tape,
-                x,
-                y,
                 s,
             );
-            state::linear::step_all(Step::ShiftRows, Direction::Forward, d, t, s);
+            state::linear::step_all(Step::ShiftRows, Direction::Forward, d, s);
             drawn
         }
         Direction::Inverse => {
-            state::linear::step_all(Step::ShiftRows, Direction::Inverse, d, t, s);
-            state::substitution::sub_rows(logs, antilogs, Direction::Inverse, d, tape, x, y, s)
+            state::linear::step_all(Step::ShiftRows, Direction::Inverse, d, s);
+            state::substitution::sub_rows(logs, antilogs, Direction::Inverse, d, tape, s)
         }
     }
 }
 
 // MixColumns, then AddRoundKey; in decryption AddRoundKey, then InvMixColumns.
-fn mix_and_add(
-    which: Direction,
-    d: usize,
-    m: usize,
-    r: usize,
-    keys: &[u8],
-    t: &mut [u8],
-    s: &mut [u8],
-)
-    requires { ⌜ (d ≤ 8) × (16 * r + 16 ≤ m) × (length (now keys) ≡ suc d * m) × (length (now t) ≡ 16) × (length (now s) ≡ suc d * 16) ⌝ }
-    ensures { λ _. ⌜ now (s .exit) ≡ laid (keyed-of which r (parts (suc d) m (now (keys .entry))) (parts (suc d) 16 (now (s .entry)))) ⌝ }
+fn mix_and_add(which: Direction, d: usize, m: usize, r: usize, keys: &[u8], s: &mut [u8])
+    requires { ⌜ (d ≤ 8) × (16 * r + 16 ≤ m) × (length (now keys) ≡ suc d * m) × (length (now s) ≡ suc d * 16) ⌝ }
+    ensures { λ _. ⌜ now (s .exit)
+        ≡ laid (keyed-of which r (parts (suc d) m (now (keys .entry))) (parts (suc d) 16 (now (s .entry)))) ⌝ }
 {
     match which {
         Direction::Forward => {
-            state::linear::step_all(Step::MixColumns, Direction::Forward, d, t, s);
+            state::linear::step_all(Step::MixColumns, Direction::Forward, d, s);
             state::linear::add_key(d, m, r, keys, s);
         }
         Direction::Inverse => {
             state::linear::add_key(d, m, r, keys, s);
-            state::linear::step_all(Step::MixColumns, Direction::Inverse, d, t, s);
+            state::linear::step_all(Step::MixColumns, Direction::Inverse, d, s);
         }
     }
 }
@@ -97,19 +87,18 @@ pub fn make_round(
     r: usize,
     keys: &[u8],
     tape: &[u8],
-    x: &mut [u8],
-    y: &mut [u8],
-    t: &mut [u8],
     s: &mut [u8],
 ) -> usize
-    requires { ⌜ Round-fits d m r (now keys) (now tape) (now x) (now y) (now t) (now s) × Tables (now logs) (now antilogs) ⌝ }
-    ensures { λ q. ⌜ (q ≡ round-need d) × (now (s .exit) ≡ laid (round-of which last d r (parts (suc d) m (now (keys .entry))) (parts (suc d) 16 (now (s .entry))) (now (tape .entry)))) ⌝ }
+    requires { ⌜ Round-fits d m r (now keys) (now tape) (now s) × Tables (now logs) (now antilogs) ⌝ }
+    ensures { λ q. ⌜ (q ≡ round-need d)
+        × (now (s .exit)
+        ≡ laid (round-of which last d r (parts (suc d) m (now (keys .entry))) (parts (suc d) 16 (now (s .entry))) (now (tape .entry)))) ⌝ }
 {
-    let drawn = sub_and_shift(logs, antilogs, which, d, tape, x, y, t, s);
+    let drawn = sub_and_shift(logs, antilogs, which, d, tape, s);
     if last {
         state::linear::add_key(d, m, r, keys, s);
     } else {
-        mix_and_add(which, d, m, r, keys, t, s);
+        mix_and_add(which, d, m, r, keys, s);
     }
     drawn
 }

@@ -1,2 +1,3 @@
 pub mod WordLaws
-pub mod ScheduleLaws
+pub mod WrittenLaws
+pub mod KeyLaws

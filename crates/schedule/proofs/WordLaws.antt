@@ -27,7 +27,8 @@ use Rattle.schedule.specs.Stored.{stored, word-stored}
 use Rattle.cipher.proofs.StatesLaws.{map-shared}
 use Rattle.cipher.proofs.FipsLaws.{word-length, rot-word-length, every}
 use Rattle.cipher.proofs.CipherLaws.{subs-shared}
-use Rattle.state.proofs.PartLaws.{laid-parts-all, share-long, word-part, word-long}
+use Rattle.state.proofs.PartLaws.{laid-parts-all}
+use Rattle.state.proofs.SecondLaws.{share-long, word-part, word-long}
 
 -- ---- Rcon
 
@@ -64,7 +65,10 @@ module _ (nk i : ℕ) (t k₀ : List ℕ) where
   pub storing-start : Storing 0 k₀
   storing-start =
       let z : 4 * i ≡ 4 * i + 0 = omega arith in
-      sym (append-assoc (take (4 * i) k₀) [] (drop (4 * i + 0) k₀) ∙ ap (λ (n : ℕ). take (4 * i) k₀ ++ drop n k₀) (sym z) ∙ take-append-drop (4 * i) k₀)
+      sym
+      (append-assoc (take (4 * i) k₀) [] (drop (4 * i + 0) k₀)
+      ∙ ap (λ (n : ℕ). take (4 * i) k₀ ++ drop n k₀) (sym z)
+      ∙ take-append-drop (4 * i) k₀)
 
   module _ (some : 1 ≤ nk) (past : nk ≤ i) (fits : 4 * i + 4 ≤ length k₀) (t-long : length t ≡ 4) where
     fresh-long : length fresh ≡ 4
@@ -96,10 +100,14 @@ module _ (nk i : ℕ) (t k₀ : List ℕ) where
         let new : v ≡ getD fresh b 0 = ap (λ (x : ℕ). bitXor x (getD t b 0)) old ∙ sym (at-xors (word k₀ (i - nk)) t b) in
         let z : 4 * i + b + 1 ≡ 4 * i + (b + 1) = omega arith in
         let more : take (b + 1) fresh ≡ take b fresh ++ (v ∷ []) =
-        ap (λ (n : ℕ). take n fresh) (add-one b) ∙ take-suc fresh b 0 (omega (arith, fresh-long)) ∙ ap (λ (x : ℕ). take b fresh ++ (x ∷ [])) (sym new)
+        ap (λ (n : ℕ). take n fresh) (add-one b)
+        ∙ take-suc fresh b 0 (omega (arith, fresh-long))
+        ∙ ap (λ (x : ℕ). take b fresh ++ (x ∷ [])) (sym new)
         in
         front-more f k₀ k (4 * i + b) v e fl (omega arith)
-        ∙ ap₂ (λ (x : List ℕ) (n : ℕ). x ++ drop n k₀) (append-assoc (take (4 * i) k₀) (take b fresh) (v ∷ []) ∙ ap (_++_ (take (4 * i) k₀)) (sym more)) z
+        ∙ ap₂ (λ (x : List ℕ) (n : ℕ). x ++ drop n k₀)
+        (append-assoc (take (4 * i) k₀) (take b fresh) (v ∷ []) ∙ ap (_++_ (take (4 * i) k₀)) (sym more))
+        z
 
     pub storing-done : (b : ℕ) (k : List ℕ) → b ≡ 4 → Storing b k → k ≡ take (4 * i) k₀ ++ (fresh ++ drop (4 * i + 4) k₀)
     storing-done b k q e =
@@ -114,7 +122,8 @@ stored-part nk i j b n t k eb en =
     ap₂ (λ (x y : ℕ). take (4 * i) k ++ (xors (word k (i - nk)) (take x (drop y t)) ++ drop (4 * i + 4) k)) en eb
 
 module _ (nk i : ℕ) (some : 1 ≤ nk) (past : nk ≤ i) where
-  pub fresh-length : (t k : List ℕ) (j n : ℕ) → j < n → length t ≡ n * 4 → 4 * i + 4 ≤ length k → length (xors (word k (i - nk)) (take 4 (drop (j * 4) t))) ≡ 4
+  pub fresh-length : (t k : List ℕ) (j n : ℕ) → j < n → length t ≡ n * 4 → 4 * i + 4 ≤ length k
+      → length (xors (word k (i - nk)) (take 4 (drop (j * 4) t))) ≡ 4
   fresh-length t k j n g e h =
       length-both (word k (i - nk)) (take 4 (drop (j * 4) t)) (word-length (i - nk) k (omega arith)) (share-long 4 j n t g e)
 
@@ -144,13 +153,15 @@ some-turn nk i some-words past = let e : i / nk ≡ (i - nk) / nk + 1 = div-eq-s
 -- ---- the temporary word
 
 -- Rcon is one store
-first-xors : (c : ℕ) (s : List ℕ) → length s ≡ 4 → (rest : List ℕ) → set (s ++ rest) 0 (bitXor (getD (s ++ rest) 0 0) c) ≡ xors s (c ∷ 0 ∷ 0 ∷ 0 ∷ []) ++ rest
+first-xors : (c : ℕ) (s : List ℕ) → length s ≡ 4 → (rest : List ℕ)
+    → set (s ++ rest) 0 (bitXor (getD (s ++ rest) 0 0) c) ≡ xors s (c ∷ 0 ∷ 0 ∷ 0 ∷ []) ++ rest
 unfolding xors
 first-xors c =
     every 4 (λ s. (rest : List ℕ) → set (s ++ rest) 0 (bitXor (getD (s ++ rest) 0 0) c) ≡ xors s (c ∷ 0 ∷ 0 ∷ 0 ∷ []) ++ rest)
     (λ a b d e rest. simp xor-zero-r)
 
-rcon-store : {d : ℕ} {ss : Shares} (c : ℕ) → Shared 4 d ss → set (laid ss) 0 (bitXor (getD (laid ss) 0 0) c) ≡ laid (into-first (c ∷ 0 ∷ 0 ∷ 0 ∷ []) ss)
+rcon-store : {d : ℕ} {ss : Shares} (c : ℕ) → Shared 4 d ss
+    → set (laid ss) 0 (bitXor (getD (laid ss) 0 0) c) ≡ laid (into-first (c ∷ 0 ∷ 0 ∷ 0 ∷ []) ss)
 unfolding laid into-first
 rcon-store c (alone {s = s} h) = first-xors c s h []
 rcon-store c (more {s = s} {ss = ss} h hs) = first-xors c s h (laid ss)
@@ -169,12 +180,14 @@ turned-is d j c tape t t₁ t₂ h e₁ e₂ q =
     ap₂ (λ (y : List ℕ) (x : ℕ). set y 0 (bitXor (getD y 0 0) x)) e q ∙ rcon-store (power 2 (j - 1)) rotated
 
 -- the three answers
-pub temp-says : (nk d i : ℕ) (k : Kind) (tape t t′ : List ℕ) (r : ℕ) → kind nk i ≡ k → r ≡ temp-need d k → t′ ≡ laid (masked-temp d k (i / nk) (parts (suc d) 4 t) tape)
+pub temp-says : (nk d i : ℕ) (k : Kind) (tape t t′ : List ℕ) (r : ℕ) → kind nk i ≡ k → r ≡ temp-need d k
+    → t′ ≡ laid (masked-temp d k (i / nk) (parts (suc d) 4 t) tape)
     → (r ≡ temp-need d (kind nk i)) × (t′ ≡ laid (masked-temp d (kind nk i) (i / nk) (parts (suc d) 4 t) tape))
 temp-says nk d i k tape t t′ r e n q =
     (n ∙ ap (temp-need d) (sym e), q ∙ ap (λ (x : Kind). laid (masked-temp d x (i / nk) (parts (suc d) 4 t) tape)) (sym e))
 
-pub subbed-says : (nk d i : ℕ) (tape t t′ : List ℕ) (r : ℕ) → kind nk i ≡ subbed → r ≡ subs-need d in-word → t′ ≡ laid (subs d in-word (parts (suc d) 4 t) tape)
+pub subbed-says : (nk d i : ℕ) (tape t t′ : List ℕ) (r : ℕ) → kind nk i ≡ subbed → r ≡ subs-need d in-word
+    → t′ ≡ laid (subs d in-word (parts (suc d) 4 t) tape)
     → (r ≡ temp-need d (kind nk i)) × (t′ ≡ laid (masked-temp d (kind nk i) (i / nk) (parts (suc d) 4 t) tape))
 unfolding temp-need masked-temp
 subbed-says nk d i tape t t′ r e n q = temp-says nk d i subbed tape t t′ r e n q
@@ -199,4 +212,6 @@ pub word-is : (nk d m i : ℕ) (keys tape t₀ t₁ keys′ : List ℕ) → t₀
     → keys′ ≡ word-stored nk d m i keys tape
 unfolding word-stored
 word-is nk d m i keys tape t₀ t₁ keys′ e₀ e₁ e₂ =
-    e₂ ∙ ap (λ (t : List ℕ). laid (each-by (stored nk i t) 0 (parts (suc d) m keys))) (e₁ ∙ ap (λ (t : List ℕ). laid (masked-temp d (kind nk i) (i / nk) (parts (suc d) 4 t) tape)) e₀)
+    e₂
+    ∙ ap (λ (t : List ℕ). laid (each-by (stored nk i t) 0 (parts (suc d) m keys)))
+    (e₁ ∙ ap (λ (t : List ℕ). laid (masked-temp d (kind nk i) (i / nk) (parts (suc d) 4 t) tape)) e₀)

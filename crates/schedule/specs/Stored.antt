@@ -1,14 +1,14 @@
 -- What a word of the key expansion does to the buffer, and what its routines ask of their slices. Assumes nothing: these are definitions.
 -- Inner contracts: no document decides them.
-use mathlib.Core.List.{List, _++_}
+use mathlib.Core.List.{List, _++_, map}
 use mathlib.Core.Path.{_≡_}
 use Prim.Native.Nat.{ℕ, suc, _+_, _*_, _-_, _/_, _≤_}
 use lib.ListN.{length, take, drop}
 use Rattle.xor.specs.Sums.{xors}
-use Rattle.shares.specs.Strings.{parts, laid}
+use Rattle.shares.specs.Strings.{Shares, parts, laid}
 use Rattle.cipher.specs.Fips197.{word, kind}
 use Rattle.cipher.specs.States.{each-by}
-use Rattle.cipher.specs.Cipher.{words, masked-temp, temp-need, schedule-from-need}
+use Rattle.cipher.specs.Cipher.{subs-need, in-word, words, masked-temp, temp-need, schedule-from-need}
 
 -- word i written into share j, from the shares t of the temporary word
 abbrev pub stored : (nk i : ℕ) (t : List ℕ) → ℕ → List ℕ → List ℕ
@@ -21,26 +21,49 @@ word-stored nk d m i keys tape =
     let t₁ = laid (masked-temp d (kind nk i) (i / nk) (parts (suc d) 4 t₀) tape) in
     laid (each-by (stored nk i t₁) 0 (parts (suc d) m keys))
 
--- what one word asks: its number, and the lengths of keys, tape and scratch
-pub record Word-fits (nk d m i : ℕ) (keys tape x y t : List ℕ) : Type 0 where
+-- the words before word i, of each share, in a buffer with room for the total
+abbrev pub written : (d total i : ℕ) (keys : List ℕ) → Shares
+written d total i keys = map (take (4 * i)) (parts (suc d) (4 * total) keys)
+
+-- ---- what the routines ask
+
+-- to store a word: its number, and the length of the keys
+pub record Store-fits (nk d m i : ℕ) (keys : List ℕ) : Type 0 where
+  pub order : d ≤ 8
+  pub some : 1 ≤ nk
+  pub past : nk ≤ i
+  pub room : 4 * i + 4 ≤ m
+  pub keyed : length keys ≡ suc d * m
+
+-- for the temporary word where i is a multiple of nk, the j-th
+pub record Turned-fits (d j : ℕ) (tape t : List ℕ) : Type 0 where
+  pub order : d ≤ 8
+  pub some : 1 ≤ j
+  pub long : length t ≡ suc d * 4
+  pub drawn : subs-need d in-word ≤ length tape
+
+-- for the temporary word of word i
+pub record Temp-fits (nk d i : ℕ) (tape t : List ℕ) : Type 0 where
+  pub order : d ≤ 8
+  pub some : 1 ≤ nk
+  pub past : nk ≤ i
+  pub long : length t ≡ suc d * 4
+  pub drawn : temp-need d (kind nk i) ≤ length tape
+
+-- for word i
+pub record Word-fits (nk d m i : ℕ) (keys tape : List ℕ) : Type 0 where
   pub order : d ≤ 8
   pub some : 1 ≤ nk
   pub past : nk ≤ i
   pub room : 4 * i + 4 ≤ m
   pub keyed : length keys ≡ suc d * m
   pub drawn : temp-need d (kind nk i) ≤ length tape
-  pub x-long : length x ≡ suc d
-  pub y-long : length y ≡ suc d
-  pub t-long : length t ≡ suc d * 4
 
--- the same for all words up to the total
-pub record Expand-fits (nk d total : ℕ) (keys tape x y t : List ℕ) : Type 0 where
+-- for all words up to the total
+pub record Expand-fits (nk d total : ℕ) (keys tape : List ℕ) : Type 0 where
   pub order : d ≤ 8
   pub some : 1 ≤ nk
   pub past : nk ≤ total
+  pub small : total ≤ 60
   pub keyed : length keys ≡ suc d * (4 * total)
   pub drawn : schedule-from-need (total - nk) nk nk d ≤ length tape
-  pub x-long : length x ≡ suc d
-  pub y-long : length y ≡ suc d
-  pub t-long : length t ≡ suc d * 4
-  pub small : total ≤ 60

@@ -1,4 +1,4 @@
-// Key expansion over shares, in a buffer of m bytes for each share, whose first 4 * nk are the key. x, y and t are scratch.
+// Key expansion over shares, in a buffer of m bytes for each share, whose first 4 * nk are the key.
 ghost use mathlib.Core.Path.{_≡_};
 ghost use mathlib.Core.List.{map};
 ghost use Prim.Native.Nat.{suc, _*_, _-_, _≤_};
@@ -7,7 +7,7 @@ ghost use Rattle.gf256.specs.Tables.{Tables};
 ghost use Rattle.shares.specs.Strings.{parts, laid};
 ghost use Rattle.cipher.specs.Fips197.{rounds};
 ghost use Rattle.cipher.specs.Cipher.{schedule-from, schedule-from-need, schedule, schedule-need};
-ghost use Rattle.schedule.specs.Stored.{Expand-fits};
+ghost use Rattle.schedule.specs.Stored.{written, Expand-fits};
 use gf256::Antilogs;
 use gf256::Logs;
 
@@ -19,18 +19,17 @@ fn expand(
     d: usize,
     total: usize,
     tape: &[u8],
-    x: &mut [u8],
-    y: &mut [u8],
-    t: &mut [u8],
     keys: &mut [u8],
 ) -> usize
-    requires { ⌜ Expand-fits nk d total (now keys) (now tape) (now x) (now y) (now t) × Tables (now logs) (now antilogs) ⌝ }
-    ensures { λ r. ⌜ (r ≡ schedule-from-need (total - nk) nk nk d) × (map (take (4 * total)) (parts (suc d) (4 * total) (now (keys .exit))) ≡ schedule-from (total - nk) nk nk d (map (take (4 * nk)) (parts (suc d) (4 * total) (now (keys .entry)))) (now (tape .entry))) ⌝ }
+    requires { ⌜ Expand-fits nk d total (now keys) (now tape) × Tables (now logs) (now antilogs) ⌝ }
+    ensures { λ r. ⌜ (r ≡ schedule-from-need (total - nk) nk nk d)
+        × (written d total total (now (keys .exit))
+        ≡ schedule-from (total - nk) nk nk d (written d total nk (now (keys .entry))) (now (tape .entry))) ⌝ }
 {
     let m = 4 * total;
     let mut at: usize = 0;
     for i in nk..total {
-        at += crate::word::next_word(logs, antilogs, nk, d, m, i, &tape[at..], x, y, t, keys);
+        at += crate::word::next_word(logs, antilogs, nk, d, m, i, &tape[at..], keys);
     }
     at
 }
@@ -49,27 +48,6 @@ fn lay_key(d: usize, l: usize, m: usize, key: &[u8], keys: &mut [u8])
     }
 }
 
-// The round keys in shares, share after share, with room for the scratch. Answers with how many bytes were drawn.
-fn expand_with(
-    logs: &Logs,
-    antilogs: &Antilogs,
-    nk: usize,
-    d: usize,
-    key: &[u8],
-    tape: &[u8],
-    x: &mut [u8],
-    y: &mut [u8],
-    t: &mut [u8],
-    keys: &mut [u8],
-) -> usize
-    requires { ⌜ (d ≤ 8) × (1 ≤ nk) × (nk ≤ 8) × (length (now key) ≡ suc d * (4 * nk)) × (length (now keys) ≡ suc d * (16 * suc (rounds nk))) × (schedule-need nk d ≤ length (now tape)) × (length (now x) ≡ suc d) × (length (now y) ≡ suc d) × (length (now t) ≡ suc d * 4) × Tables (now logs) (now antilogs) ⌝ }
-    ensures { λ q. ⌜ (q ≡ schedule-need nk d) × (now (keys .exit) ≡ laid (schedule nk d (parts (suc d) (4 * nk) (now (key .entry))) (now (tape .entry)))) ⌝ }
-{
-    let total = 4 * (nk + 7);
-    lay_key(d, 4 * nk, 4 * total, key, keys);
-    expand(logs, antilogs, nk, d, total, tape, x, y, t, keys)
-}
-
 // The round keys in shares, share after share. Answers with how many bytes were drawn.
 pub fn expand_core(
     logs: &Logs,
@@ -80,24 +58,13 @@ pub fn expand_core(
     tape: &[u8],
     keys: &mut [u8],
 ) -> usize
-    requires { ⌜ (d ≤ 8) × (1 ≤ nk) × (nk ≤ 8) × (length (now key) ≡ suc d * (4 * nk)) × (length (now keys) ≡ suc d * (16 * suc (rounds nk))) × (schedule-need nk d ≤ length (now tape)) × Tables (now logs) (now antilogs) ⌝ }
-    ensures { λ q. ⌜ (q ≡ schedule-need nk d) × (now (keys .exit) ≡ laid (schedule nk d (parts (suc d) (4 * nk) (now (key .entry))) (now (tape .entry)))) ⌝ }
+    requires { ⌜ (d ≤ 8) × (1 ≤ nk) × (nk ≤ 8) × (length (now key) ≡ suc d * (4 * nk))
+        × (length (now keys) ≡ suc d * (16 * suc (rounds nk))) × (schedule-need nk d ≤ length (now tape))
+        × Tables (now logs) (now antilogs) ⌝ }
+    ensures { λ q. ⌜ (q ≡ schedule-need nk d)
+        × (now (keys .exit) ≡ laid (schedule nk d (parts (suc d) (4 * nk) (now (key .entry))) (now (tape .entry)))) ⌝ }
 {
-    let mut x = [0u8; 9];
-    let mut y = [0u8; 9];
-    let mut t = [0u8; 36];
-    let n = d + 1;
-    let w = n * 4;
-    expand_with(
-        logs,
-        antilogs,
-        nk,
-        d,
-        key,
-        tape,
-        &mut x[0..n],
-        &mut y[0..n],
-        &mut t[0..w],
-        keys,
-    )
+    let total = 4 * (nk + 7);
+    lay_key(d, 4 * nk, 4 * total, key, keys);
+    expand(logs, antilogs, nk, d, total, tape, keys)
 }

@@ -1,4 +1,4 @@
-// One word of the key expansion over shares, in a buffer of m bytes for each share. x, y and t are scratch.
+// One word of the key expansion over shares, in a buffer of m bytes for each share. The temporary word stands in t, 4 bytes for each share.
 ghost use mathlib.Core.Path.{_≡_};
 ghost use mathlib.Core.List.{_++_};
 ghost use Prim.Native.Nat.{suc, _+_, _*_, _-_, _/_, _≤_};
@@ -10,7 +10,7 @@ ghost use Rattle.shares.specs.Strings.{parts, laid};
 ghost use Rattle.cipher.specs.Fips197.{Kind, kind, word};
 ghost use Rattle.cipher.specs.States.{each-by};
 ghost use Rattle.cipher.specs.Cipher.{subs-need, in-word, words, masked-temp, temp-need};
-ghost use Rattle.schedule.specs.Stored.{stored, word-stored, Word-fits};
+ghost use Rattle.schedule.specs.Stored.{stored, word-stored, Store-fits, Turned-fits, Temp-fits, Word-fits};
 use gf256::Antilogs;
 use gf256::Logs;
 
@@ -43,7 +43,9 @@ fn fetch(d: usize, m: usize, w: usize, keys: &[u8], t: &mut [u8])
 // Word i of one share k, from its word i - nk and the temporary word t.
 fn store_word(nk: usize, i: usize, t: &[u8], k: &mut [u8])
     requires { ⌜ (1 ≤ nk) × (nk ≤ i) × (4 * i + 4 ≤ length (now k)) × (length (now t) ≡ 4) ⌝ }
-    ensures { λ _. ⌜ now (k .exit) ≡ take (4 * i) (now (k .entry)) ++ (xors (word (now (k .entry)) (i - nk)) (now (t .entry)) ++ drop (4 * i + 4) (now (k .entry))) ⌝ }
+    ensures { λ _. ⌜ now (k .exit)
+        ≡ take (4 * i) (now (k .entry))
+        ++ (xors (word (now (k .entry)) (i - nk)) (now (t .entry)) ++ drop (4 * i + 4) (now (k .entry))) ⌝ }
 {
     for b in 0..4 {
         k[4 * i + b] = k[4 * (i - nk) + b] ^ t[b];
@@ -52,8 +54,9 @@ fn store_word(nk: usize, i: usize, t: &[u8], k: &mut [u8])
 
 // Word i of each share.
 fn store_all(nk: usize, d: usize, m: usize, i: usize, t: &[u8], keys: &mut [u8])
-    requires { ⌜ (d ≤ 8) × (1 ≤ nk) × (nk ≤ i) × (4 * i + 4 ≤ m) × (length (now keys) ≡ suc d * m) × (length (now t) ≡ suc d * 4) ⌝ }
-    ensures { λ _. ⌜ now (keys .exit) ≡ laid (each-by (stored nk i (now (t .entry))) 0 (parts (suc d) m (now (keys .entry)))) ⌝ }
+    requires { ⌜ Store-fits nk d m i (now keys) × (length (now t) ≡ suc d * 4) ⌝ }
+    ensures { λ _. ⌜ now (keys .exit)
+        ≡ laid (each-by (stored nk i (now (t .entry))) 0 (parts (suc d) m (now (keys .entry)))) ⌝ }
 {
     for j in 0..d + 1 {
         let a = j * m;
@@ -71,14 +74,13 @@ fn turned_temp(
     d: usize,
     j: usize,
     tape: &[u8],
-    x: &mut [u8],
-    y: &mut [u8],
     t: &mut [u8],
 ) -> usize
-    requires { ⌜ (d ≤ 8) × (1 ≤ j) × (length (now t) ≡ suc d * 4) × (length (now x) ≡ suc d) × (length (now y) ≡ suc d) × (subs-need d in-word ≤ length (now tape)) × Tables (now logs) (now antilogs) ⌝ }
-    ensures { λ r. ⌜ (r ≡ subs-need d in-word) × (now (t .exit) ≡ laid (masked-temp d Kind.turned j (parts (suc d) 4 (now (t .entry))) (now (tape .entry)))) ⌝ }
+    requires { ⌜ Turned-fits d j (now tape) (now t) × Tables (now logs) (now antilogs) ⌝ }
+    ensures { λ r. ⌜ (r ≡ subs-need d in-word)
+        × (now (t .exit) ≡ laid (masked-temp d Kind.turned j (parts (suc d) 4 (now (t .entry))) (now (tape .entry)))) ⌝ }
 {
-    let drawn = state::substitution::sub_word(logs, antilogs, d, tape, x, y, t);
+    let drawn = state::substitution::sub_word(logs, antilogs, d, tape, t);
     state::linear::rot_all(d, t);
     t[0] = t[0] ^ rcon(j);
     drawn
@@ -92,23 +94,44 @@ fn make_temp(
     d: usize,
     i: usize,
     tape: &[u8],
-    x: &mut [u8],
-    y: &mut [u8],
     t: &mut [u8],
 ) -> usize
-    requires { ⌜ (d ≤ 8) × (1 ≤ nk) × (nk ≤ i) × (length (now t) ≡ suc d * 4) × (length (now x) ≡ suc d) × (length (now y) ≡ suc d) × (temp-need d (kind nk i) ≤ length (now tape)) × Tables (now logs) (now antilogs) ⌝ }
-    ensures { λ r. ⌜ (r ≡ temp-need d (kind nk i)) × (now (t .exit) ≡ laid (masked-temp d (kind nk i) (i / nk) (parts (suc d) 4 (now (t .entry))) (now (tape .entry)))) ⌝ }
+    requires { ⌜ Temp-fits nk d i (now tape) (now t) × Tables (now logs) (now antilogs) ⌝ }
+    ensures { λ r. ⌜ (r ≡ temp-need d (kind nk i))
+        × (now (t .exit) ≡ laid (masked-temp d (kind nk i) (i / nk) (parts (suc d) 4 (now (t .entry))) (now (tape .entry)))) ⌝ }
 {
     let left = i % nk;
     if left == 0 {
-        return turned_temp(logs, antilogs, d, i / nk, tape, x, y, t);
+        return turned_temp(logs, antilogs, d, i / nk, tape, t);
     }
     if nk > 6 {
         if left == 4 {
-            return state::substitution::sub_word(logs, antilogs, d, tape, x, y, t);
+            return state::substitution::sub_word(logs, antilogs, d, tape, t);
         }
     }
     0
+}
+
+// Word i in all shares, with room for the temporary word. Answers with how many bytes were drawn.
+fn word_with(
+    logs: &Logs,
+    antilogs: &Antilogs,
+    nk: usize,
+    d: usize,
+    m: usize,
+    i: usize,
+    tape: &[u8],
+    t: &mut [u8],
+    keys: &mut [u8],
+) -> usize
+    requires { ⌜ Word-fits nk d m i (now keys) (now tape) × (length (now t) ≡ suc d * 4) × Tables (now logs) (now antilogs) ⌝ }
+    ensures { λ r. ⌜ (r ≡ temp-need d (kind nk i))
+        × (now (keys .exit) ≡ word-stored nk d m i (now (keys .entry)) (now (tape .entry))) ⌝ }
+{
+    fetch(d, m, i - 1, keys, t);
+    let drawn = make_temp(logs, antilogs, nk, d, i, tape, t);
+    store_all(nk, d, m, i, t, keys);
+    drawn
 }
 
 // Word i in all shares. Answers with how many bytes were drawn.
@@ -120,16 +143,13 @@ pub fn next_word(
     m: usize,
     i: usize,
     tape: &[u8],
-    x: &mut [u8],
-    y: &mut [u8],
-    t: &mut [u8],
     keys: &mut [u8],
 ) -> usize
-    requires { ⌜ Word-fits nk d m i (now keys) (now tape) (now x) (now y) (now t) × Tables (now logs) (now antilogs) ⌝ }
-    ensures { λ r. ⌜ (r ≡ temp-need d (kind nk i)) × (now (keys .exit) ≡ word-stored nk d m i (now (keys .entry)) (now (tape .entry))) ⌝ }
+    requires { ⌜ Word-fits nk d m i (now keys) (now tape) × Tables (now logs) (now antilogs) ⌝ }
+    ensures { λ r. ⌜ (r ≡ temp-need d (kind nk i))
+        × (now (keys .exit) ≡ word-stored nk d m i (now (keys .entry)) (now (tape .entry))) ⌝ }
 {
-    fetch(d, m, i - 1, keys, t);
-    let drawn = make_temp(logs, antilogs, nk, d, i, tape, x, y, t);
-    store_all(nk, d, m, i, t, keys);
-    drawn
+    let mut t = [0u8; 36];
+    let n = (d + 1) * 4;
+    word_with(logs, antilogs, nk, d, m, i, tape, &mut t[0..n], keys)
 }

@@ -1,3 +1,6 @@
 pub mod PartLaws
+pub mod ShareLaws
+pub mod SecondLaws
 pub mod StepLaws
+pub mod BufferLaws
 pub mod SubLaws

@@ -1,71 +1,78 @@
--- The loop that takes S-boxes at listed places: what is left to do gives what was to be done. Assumes nothing.
-use mathlib.Core.Path.{_≡_, refl, sym, ap, ap₂, _∙_}
-use mathlib.Core.List.{List, _∷_}
-use Prim.Native.Nat.{ℕ, suc, _+_, _*_, _-_, _≤_, _<_}
+-- S-boxes in place: one from the calls that make it, four as a loop, and a state's as a loop over its rows. Assumes nothing.
+use mathlib.Core.Path.{_≡_, refl, ap, _∙_}
+use mathlib.Core.List.{List, _∷_, _++_}
+use Prim.Native.Nat.{ℕ, zero, suc, _+_, _*_, _≤_, _<_}
+use native.Mathlib.Nat.{mul-le-mul-right}
 use native.Mathlib.Omega.{arith}
-use native.Mathlib.Numerals.{add-one}
-use lib.ListN.{length, take, drop, drop-of-length-le}
-use lib.Seq.{drop-cons, drop-drop}
-use Rattle.xor.specs.Lists.{at}
-use Rattle.shares.specs.Strings.{Shares, parts, laid}
-use Rattle.shares.proofs.StringsLaws.{laid-length, parts-laid, shared-parts}
-use Rattle.shares.proofs.WriteLaws.{part-rest}
+use lib.ListN.{drop}
+use Rattle.xor.specs.Lists.{tab, runs}
 use Rattle.gf256.specs.declared.Direction.{Direction}
+use Rattle.shares.specs.Strings.{Shares, parts, laid}
 use Rattle.sbox.specs.Box.{box-of, box-need}
 use Rattle.cipher.specs.States.{column, put}
-use Rattle.cipher.specs.Cipher.{sub-at, subs-of, subs-need}
-use Rattle.cipher.proofs.StatesLaws.{put-shared}
-use Rattle.state.proofs.PartLaws.{laid-parts-all}
+use Rattle.cipher.specs.Cipher.{sub-at, subs-of, subs-need, by-rows}
+use Rattle.cipher.proofs.DrawingLaws.{Loop}
+use Rattle.cipher.proofs.SubsLaws.{subs-of-append, subs-need-append}
+use Rattle.state.specs.Boxes.{spaced, in-row}
+
+-- ---- one S-box
 
 -- one S-box in place, from the three calls that make it
-pub sub-made : (w : Direction) (d l k : ℕ) (tape s s′ x y : List ℕ) → x ≡ column k (parts (suc d) l s) → y ≡ box-of w d x tape → s′ ≡ laid (put (parts (suc d) l s) k y)
-    → s′ ≡ laid (sub-at w d k (parts (suc d) l s) tape)
+pub sub-made : (w : Direction) (d l k : ℕ) (tape s s′ x y : List ℕ) → x ≡ column k (parts (suc d) l s) → y ≡ box-of w d x tape
+    → s′ ≡ laid (put (parts (suc d) l s) k y) → s′ ≡ laid (sub-at w d k (parts (suc d) l s) tape)
 unfolding sub-at
-sub-made w d l k tape s s′ x y ex ey es = es ∙ ap (λ (v : List ℕ). laid (put (parts (suc d) l s) k v)) (ey ∙ ap (λ (v : List ℕ). box-of w d v tape) ex)
+sub-made w d l k tape s s′ x y ex ey es =
+    es ∙ ap (λ (v : List ℕ). laid (put (parts (suc d) l s) k v)) (ey ∙ ap (λ (v : List ℕ). box-of w d v tape) ex)
 
-module _ (w : Direction) (d l : ℕ) (ks tape s₀ : List ℕ) where
-  -- after m places, with `taken` bytes drawn and the shares at s
-  pub record Subbing (m taken : ℕ) (s : List ℕ) : Type 0 where
-    pub need : taken + subs-need d (drop m ks) ≡ subs-need d ks
-    pub same : subs-of w d (drop m ks) (parts (suc d) l s) (drop taken tape) ≡ subs-of w d ks (parts (suc d) l s₀) tape
-    pub long : length s ≡ suc d * l
+-- ---- four
 
-  pub subbing-start : length s₀ ≡ suc d * l → Subbing 0 0 s₀
-  subbing-start h = record { need = omega arith; same = refl; long = h }
+pub spaced-next : (first stride m : ℕ) → m < 4 → drop m (spaced first stride) ≡ (first + m * stride) ∷ drop (suc m) (spaced first stride)
+unfolding spaced tab runs
+spaced-next first stride zero h = refl
+spaced-next first stride (suc zero) h = refl
+spaced-next first stride (suc (suc zero)) h = refl
+spaced-next first stride (suc (suc (suc zero))) h = refl
+spaced-next first stride (suc (suc (suc (suc m)))) h = absurd (omega arith)
 
-  module _ (m taken : ℕ) (s : List ℕ) (so-far : Subbing m taken s) where
-    -- the tape holds the next S-box's bytes
-    pub subbing-room : m < length ks → taken + box-need d ≤ subs-need d ks
-    unfolding subs-need
-    subbing-room h =
-        let e : subs-need d (drop m ks) ≡ box-need d + subs-need d (drop (suc m) ks) = ap (subs-need d) (drop-cons ks m 0 h) in
-        omega (arith, so-far .need)
+-- each lies within the string
+pub spaced-within : (first stride m l : ℕ) → m < 4 → first + 3 * stride < l → first + m * stride < l
+spaced-within first stride m l h g = let e : m ≤ 3 = omega arith in omega (arith, mul-le-mul-right stride e)
 
-    pub subbing-more : (k r : ℕ) (s′ : List ℕ) → m < length ks → k ≡ at ks m → r ≡ box-need d
-        → s′ ≡ laid (sub-at w d k (parts (suc d) l s) (take (length tape - taken) (drop taken tape))) → Subbing (m + 1) (taken + r) s′
-    unfolding subs-of subs-need sub-at at
-    subbing-more k r s′ h q n e₀ =
-        let e : s′ ≡ laid (sub-at w d k (parts (suc d) l s) (drop taken tape)) = e₀ ∙ ap (λ (t : List ℕ). laid (sub-at w d k (parts (suc d) l s) t)) (part-rest tape taken) in
-        let cons : drop m ks ≡ k ∷ drop (m + 1) ks = drop-cons ks m 0 h ∙ ap₂ (λ (a b : ℕ). a ∷ drop b ks) (sym q) (sym (add-one m)) in
-        let shape = put-shared k (box-of w d (column k (parts (suc d) l s)) (drop taken tape)) (shared-parts d l s (omega (arith, so-far .long))) in
-        let back : parts (suc d) l s′ ≡ sub-at w d k (parts (suc d) l s) (drop taken tape) = ap (parts (suc d) l) e ∙ parts-laid shape in
-        let left : subs-need d (drop m ks) ≡ box-need d + subs-need d (drop (m + 1) ks) = ap (subs-need d) cons in
-        record {
-          need = omega (arith, so-far .need);
-          same =
-              ap₂ (λ (a : Shares) (b : List ℕ). subs-of w d (drop (m + 1) ks) a b) back (sym (drop-drop (box-need d) taken tape ∙ ap (λ (b : ℕ). drop (taken + b) tape) (sym n)))
-              ∙ sym (ap (λ (a : List ℕ). subs-of w d a (parts (suc d) l s) (drop taken tape)) cons)
-              ∙ so-far .same;
-          long = ap length e ∙ laid-length shape;
-        }
+unfoldable pub four-boxes : Direction → (d first stride : ℕ) → Loop Shares 4
+unfolding subs-of subs-need spaced tab runs
+four-boxes w d first stride = record {
+  step = λ m ss ts. sub-at w d (first + m * stride) ss ts;
+  cost = λ m. box-need d;
+  left = λ m ss ts. subs-of w d (drop m (spaced first stride)) ss ts;
+  need = λ m. subs-need d (drop m (spaced first stride));
+  left-next = λ m h ss ts. ap (λ (js : List ℕ). subs-of w d js ss ts) (spaced-next first stride m h);
+  left-end = λ ss ts. refl;
+  need-next = λ m h. ap (subs-need d) (spaced-next first stride m h);
+  need-end = refl;
+}
 
-    pub subbing-taken : length ks ≤ m → taken ≡ subs-need d ks
-    unfolding subs-need
-    subbing-taken h = let e : subs-need d (drop m ks) ≡ 0 = ap (subs-need d) (drop-of-length-le ks h) in omega (arith, so-far .need)
+-- ---- a state, row by row
 
-    pub subbing-done : length ks ≤ m → s ≡ laid (subs-of w d ks (parts (suc d) l s₀) tape)
-    unfolding subs-of
-    subbing-done h =
-        sym
-        (ap laid (sym (so-far .same) ∙ ap (λ (a : List ℕ). subs-of w d a (parts (suc d) l s) (drop taken tape)) (drop-of-length-le ks h))
-        ∙ laid-parts-all (suc d) l s (so-far .long))
+-- from row r on, by-rows is row r and then the rows below
+pub rows-next : (r : ℕ) → r < 4 → drop (4 * r) by-rows ≡ in-row r ++ drop (4 * suc r) by-rows
+unfolding spaced tab runs
+rows-next zero h = refl
+rows-next (suc zero) h = refl
+rows-next (suc (suc zero)) h = refl
+rows-next (suc (suc (suc zero))) h = refl
+rows-next (suc (suc (suc (suc r)))) h = absurd (omega arith)
+
+unfoldable pub four-rows : Direction → (d : ℕ) → Loop Shares 4
+unfolding subs-of subs-need
+four-rows w d = record {
+  step = λ r ss ts. subs-of w d (in-row r) ss ts;
+  cost = λ r. subs-need d (in-row r);
+  left = λ r ss ts. subs-of w d (drop (4 * r) by-rows) ss ts;
+  need = λ r. subs-need d (drop (4 * r) by-rows);
+  left-next = λ r h ss ts.
+      ap (λ (js : List ℕ). subs-of w d js ss ts) (rows-next r h)
+      ∙ subs-of-append w d (in-row r) (drop (4 * suc r) by-rows) ss ts;
+  left-end = λ ss ts. refl;
+  need-next = λ r h. ap (subs-need d) (rows-next r h) ∙ subs-need-append d (in-row r) (drop (4 * suc r) by-rows);
+  need-end = refl;
+}

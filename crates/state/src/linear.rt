@@ -64,23 +64,33 @@ fn make_step(step: Step, which: Direction, t: &[u8], s: &mut [u8])
     }
 }
 
-// The step that is named, on each share; t is scratch of 16 bytes.
-pub fn step_all(step: Step, which: Direction, d: usize, t: &mut [u8], s: &mut [u8])
-    requires { ⌜ (d ≤ 8) × (length (now t) ≡ 16) × (length (now s) ≡ suc d * 16) ⌝ }
+// The step that is named, of the state s of one share.
+fn step_share(step: Step, which: Direction, s: &mut [u8])
+    requires { ⌜ length (now s) ≡ 16 ⌝ }
+    ensures { λ _. ⌜ now (s .exit) ≡ stepped step which (now (s .entry)) ⌝ }
+{
+    let mut t = [0u8; 16];
+    shares::bytes::put(s, &mut t);
+    make_step(step, which, &t, s);
+}
+
+// The step that is named, on each share.
+pub fn step_all(step: Step, which: Direction, d: usize, s: &mut [u8])
+    requires { ⌜ (d ≤ 8) × (length (now s) ≡ suc d * 16) ⌝ }
     ensures { λ _. ⌜ now (s .exit) ≡ laid (map (stepped step which) (parts (suc d) 16 (now (s .entry)))) ⌝ }
 {
     for i in 0..d + 1 {
         let a = i * 16;
         let e = a + 16;
-        shares::bytes::put(&s[a..e], t);
-        make_step(step, which, t, &mut s[a..e]);
+        step_share(step, which, &mut s[a..e]);
     }
 }
 
 // Round key r into each share; the keys have m bytes in each share.
 pub fn add_key(d: usize, m: usize, r: usize, keys: &[u8], s: &mut [u8])
     requires { ⌜ (d ≤ 8) × (16 * r + 16 ≤ m) × (length (now keys) ≡ suc d * m) × (length (now s) ≡ suc d * 16) ⌝ }
-    ensures { λ _. ⌜ now (s .exit) ≡ laid (adds (parts (suc d) 16 (now (s .entry))) (round-keys (parts (suc d) m (now (keys .entry))) r)) ⌝ }
+    ensures { λ _. ⌜ now (s .exit)
+        ≡ laid (adds (parts (suc d) 16 (now (s .entry))) (round-keys (parts (suc d) m (now (keys .entry))) r)) ⌝ }
 {
     for i in 0..d + 1 {
         let a = i * 16;
@@ -91,6 +101,7 @@ pub fn add_key(d: usize, m: usize, r: usize, keys: &[u8], s: &mut [u8])
     }
 }
 
+// RotWord of the word s of one share.
 fn rot_word(s: &mut [u8])
     requires { ⌜ length (now s) ≡ 4 ⌝ }
     ensures { λ _. ⌜ now (s .exit) ≡ Fips197.rot-word (now (s .entry)) ⌝ }

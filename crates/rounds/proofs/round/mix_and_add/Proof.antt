@@ -1,8 +1,10 @@
 -- `rounds::round::mix_and_add` meets its contract. Assumes nothing.
+-- `rounds::round::mix_and_add` meets its contract. Assumes nothing.
 use mathlib.Core.List.{map}
 use mathlib.Core.Path.{sym, ap, _∙_}
 use Prim.Native.Nat.{suc}
 use native.Mathlib.Omega.{arith}
+use borrow.Author.Needs.{needs}
 use denote.Ref.{now}
 use Rattle.gf256.specs.declared.Direction.{Direction}
 use Rattle.shares.specs.Strings.{parts, laid}
@@ -15,7 +17,6 @@ use Rattle.cipher.proofs.StatesLaws.{map-shared, adds-shared}
 use Rattle.cipher.proofs.CipherLaws.{round-keys-shared}
 use Rattle.rounds.specs.Directions.{keyed-of}
 use Rattle.rounds.proofs.RoundLaws.{two-steps, state-shape}
-use borrow.Author.Needs.{needs}
 use Rattle.rounds.proofs.round.mix_and_add.Statement.{statement}
 use Rattle.rounds.proofs.round.mix_and_add.Tie as tie
 
@@ -40,32 +41,36 @@ step-all-requires-2 c κs = search needs
 same-length : tie.Need-same-length
 same-length c = search needs
 
+returns : tie.Need-returns
+returns c =
+    let second = c .before .before in
+    let first = second .before .before .before .before in
+    let told = first .before .before in
+    let start = told .before .before .before .before in
+    let a = start .args in
+    let p = parts (suc (a .d)) 16 (now (a .s)) in
+    let ks = parts (suc (a .d)) (a .m) (now (a .keys)) in
+    let shape = map-shared mix-columns (λ s e. mix-columns-length s) (state-shape (a .d) (now (a .s)) (start .pre .3)) in
+    let made = two-steps (a .d) (map mix-columns) (λ p. adds p (round-keys ks (a .r))) _ _ _ shape (first .step-all .ensures) in
+    made (second .add-key .ensures) ∙ sym (ap (λ (w : Direction). laid (keyed-of w (a .r) ks p)) (told .enum-told .given .1))
+
 same-length-2 : tie.Need-same-length-2
 same-length-2 c = search needs
 
-returns : tie.Need-returns
-returns c =
-    let a = c .before .before .before .before .before .before .before .before .before .before .before .before .before .before .before .before .args in
-    let p = parts (suc (a .d)) 16 (now (a .s)) in
-    let ks = parts (suc (a .d)) (a .m) (now (a .keys)) in
-    let shape = map-shared mix-columns (λ s e. mix-columns-length s) (state-shape (a .d) (now (a .s)) (c .before .before .before .before .before .before .before .before .before .before .before .before .before .before .before .before .pre .4)) in
-    two-steps (a .d) (map mix-columns) (λ p. adds p (round-keys ks (a .r))) _ _ _ shape (c .before .before .before .before .before .before .before .before .step-all .ensures) (c .before .before .add-key .ensures) ∙ sym (ap (λ (w : Direction). laid (keyed-of w (a .r) ks p)) (c .before .before .before .before .before .before .before .before .before .before .before .enum-told .given .1))
-
-same-length-3 : tie.Need-same-length-3
-same-length-3 c = search needs
-
-same-length-4 : tie.Need-same-length-4
-same-length-4 c = search needs
-
 returns-2 : tie.Need-returns-2
 returns-2 c =
-    let a = c .before .before .before .before .before .before .before .before .before .before .before .before .before .before .before .before .args in
-    let fit = c .before .before .before .before .before .before .before .before .before .before .before .before .before .before .before .before .pre in
+    let second = c .before .before in
+    let first = second .before .before .before .before in
+    let told = first .before .before in
+    let start = told .before .before .before .before in
+    let a = start .args in
+    let fit = start .pre in
     let p = parts (suc (a .d)) 16 (now (a .s)) in
     let ks = parts (suc (a .d)) (a .m) (now (a .keys)) in
     let keyed = round-keys-shared (a .r) (fit .1) (shared-parts (a .d) (a .m) (now (a .keys)) (omega (arith, fit .2))) in
-    let shape = adds-shared (state-shape (a .d) (now (a .s)) (fit .4)) keyed in
-    two-steps (a .d) (λ p. adds p (round-keys ks (a .r))) (map inv-mix-columns) _ _ _ shape (c .before .before .before .before .before .before .before .before .before .add-key2 .ensures) (c .before .before .before .before .step-all2 .ensures) ∙ sym (ap (λ (w : Direction). laid (keyed-of w (a .r) ks p)) (c .before .before .before .before .before .before .before .before .before .before .before .enum-told2 .given .1))
+    let shape = adds-shared (state-shape (a .d) (now (a .s)) (fit .3)) keyed in
+    let made = two-steps (a .d) (λ p. adds p (round-keys ks (a .r))) (map inv-mix-columns) _ _ _ shape (first .add-key2 .ensures) in
+    made (second .step-all2 .ensures) ∙ sym (ap (λ (w : Direction). laid (keyed-of w (a .r) ks p)) (told .enum-told2 .given .1))
 
 pub mix-and-add-spec : {M : Type 1} → statement M
 mix-and-add-spec =
@@ -78,8 +83,6 @@ mix-and-add-spec =
     add-key-requires-2
     step-all-requires-2
     same-length
-    same-length-2
     returns
-    same-length-3
-    same-length-4
+    same-length-2
     returns-2)

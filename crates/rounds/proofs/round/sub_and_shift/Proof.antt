@@ -1,7 +1,9 @@
 -- `rounds::round::sub_and_shift` meets its contract. Assumes nothing.
+-- `rounds::round::sub_and_shift` meets its contract. Assumes nothing.
 use mathlib.Core.List.{map}
 use mathlib.Core.Path.{sym, ap, _∙_}
 use Prim.Native.Nat.{suc}
+use borrow.Author.Needs.{needs}
 use denote.Ref.{now}
 use Rattle.gf256.specs.declared.Direction.{Direction}
 use Rattle.shares.specs.Strings.{parts, laid}
@@ -12,7 +14,6 @@ use Rattle.cipher.proofs.StatesLaws.{map-shared}
 use Rattle.cipher.proofs.CipherLaws.{subs-shared}
 use Rattle.rounds.specs.Directions.{shifted-of}
 use Rattle.rounds.proofs.RoundLaws.{two-steps, state-shape}
-use borrow.Author.Needs.{needs}
 use Rattle.rounds.proofs.round.sub_and_shift.Statement.{statement}
 use Rattle.rounds.proofs.round.sub_and_shift.Tie as tie
 
@@ -32,49 +33,41 @@ step-all-requires-2 : tie.Need-step-all-requires-2
 step-all-requires-2 c κs = search needs
 
 sub-rows-requires-2 : tie.Need-sub-rows-requires-2
-sub-rows-requires-2 c κs =
-    let fit = c .before .before .before .before .before .before .before .before .before .before .before .before .before .before .before .before .before .pre in
-    (fit .0, search needs, fit .2, fit .3, fit .1, fit .6)
+sub-rows-requires-2 c κs = search needs
 
 same-length : tie.Need-same-length
 same-length c = search needs
 
+returns : tie.Need-returns
+returns c =
+    let second = c .before .before in
+    let first = second .before .before .before .before in
+    let told = first .before .before in
+    let start = told .before .before .before .before in
+    let a = start .args in
+    let ts = now (a .tape) in
+    let p = parts (suc (a .d)) 16 (now (a .s)) in
+    let shape = subs-shared by-rows ts (state-shape (a .d) (now (a .s)) (start .pre .2)) in
+    let boxed = first .sub-rows .ensures in
+    let made = two-steps (a .d) (λ p. subs (a .d) by-rows p ts) (map shift-rows) _ _ _ shape (boxed .1) (second .step-all .ensures) in
+    (boxed .0, made ∙ sym (ap (λ (w : Direction). laid (shifted-of w (a .d) p ts)) (told .enum-told .given .1)))
+
 same-length-2 : tie.Need-same-length-2
 same-length-2 c = search needs
 
-same-length-3 : tie.Need-same-length-3
-same-length-3 c = search needs
-
-same-length-4 : tie.Need-same-length-4
-same-length-4 c = search needs
-
-returns : tie.Need-returns
-returns c =
-    let a = c .before .before .before .before .before .before .before .before .before .before .before .before .before .before .before .before .before .before .before .before .before .before .before .before .args in
-    let p = parts (suc (a .d)) 16 (now (a .s)) in
-    let shape = state-shape (a .d) (now (a .s)) (c .before .before .before .before .before .before .before .before .before .before .before .before .before .before .before .before .before .before .before .before .before .before .before .before .pre .5) in
-    let boxed = c .before .before .before .before .before .before .before .before .before .before .before .before .before .sub-rows .ensures in
-    (boxed .0, two-steps (a .d) (λ p. subs (a .d) by-rows p (now (a .tape))) (map shift-rows) _ _ _ (subs-shared by-rows (now (a .tape)) shape) (boxed .1) (c .before .before .before .before .step-all .ensures) ∙ sym (ap (λ (w : Direction). laid (shifted-of w (a .d) p (now (a .tape)))) (c .before .before .before .before .before .before .before .before .before .before .before .before .before .before .before .before .before .enum-told .given .1)))
-
-same-length-5 : tie.Need-same-length-5
-same-length-5 c = search needs
-
-same-length-6 : tie.Need-same-length-6
-same-length-6 c = search needs
-
-same-length-7 : tie.Need-same-length-7
-same-length-7 c = search needs
-
-same-length-8 : tie.Need-same-length-8
-same-length-8 c = search needs
-
 returns-2 : tie.Need-returns-2
 returns-2 c =
-    let a = c .before .before .before .before .before .before .before .before .before .before .before .before .before .before .before .before .before .before .before .before .before .before .before .before .args in
+    let second = c .before .before in
+    let first = second .before .before .before .before in
+    let told = first .before .before in
+    let start = told .before .before .before .before in
+    let a = start .args in
+    let ts = now (a .tape) in
     let p = parts (suc (a .d)) 16 (now (a .s)) in
-    let shape = map-shared inv-shift-rows (λ s e. inv-shift-rows-length s) (state-shape (a .d) (now (a .s)) (c .before .before .before .before .before .before .before .before .before .before .before .before .before .before .before .before .before .before .before .before .before .before .before .before .pre .5)) in
-    let boxed = c .before .before .before .before .before .before .sub-rows2 .ensures in
-    (boxed .0, two-steps (a .d) (map inv-shift-rows) (λ p. inv-subs (a .d) by-rows p (now (a .tape))) _ _ _ shape (c .before .before .before .before .before .before .before .before .before .before .before .before .before .before .step-all2 .ensures) (boxed .1) ∙ sym (ap (λ (w : Direction). laid (shifted-of w (a .d) p (now (a .tape)))) (c .before .before .before .before .before .before .before .before .before .before .before .before .before .before .before .before .before .enum-told2 .given .1)))
+    let shape = map-shared inv-shift-rows (λ s e. inv-shift-rows-length s) (state-shape (a .d) (now (a .s)) (start .pre .2)) in
+    let boxed = second .sub-rows2 .ensures in
+    let made = two-steps (a .d) (map inv-shift-rows) (λ p. inv-subs (a .d) by-rows p ts) _ _ _ shape (first .step-all2 .ensures) (boxed .1) in
+    (boxed .0, made ∙ sym (ap (λ (w : Direction). laid (shifted-of w (a .d) p ts)) (told .enum-told2 .given .1)))
 
 pub sub-and-shift-spec : {M : Type 1} → statement M
 sub-and-shift-spec =
@@ -87,12 +80,6 @@ sub-and-shift-spec =
     step-all-requires-2
     sub-rows-requires-2
     same-length
-    same-length-2
-    same-length-3
-    same-length-4
     returns
-    same-length-5
-    same-length-6
-    same-length-7
-    same-length-8
+    same-length-2
     returns-2)

@@ -7,8 +7,8 @@ use denote.Ref.{now}
 use lib.ListN.{length, take, drop}
 use Rattle.shares.specs.Writes.{front}
 use Rattle.shares.proofs.StringsLaws.{part-fits}
-use Rattle.state.proofs.PartLaws.{Done, done-none, done-more, done-all}
-use Rattle.schedule.proofs.ScheduleLaws.{with-share, with-share-length, key-laid}
+use Rattle.state.proofs.ShareLaws.{Done, done-none, done-more, done-all}
+use Rattle.schedule.proofs.KeyLaws.{with-share, with-share-length, key-laid}
 use Rattle.schedule.proofs.expansion.lay_key.Statement.{statement}
 use Rattle.schedule.proofs.expansion.lay_key.Tie as tie
 
@@ -26,16 +26,28 @@ loop-holds : tie.Need-loop-holds Inv-loop μ-loop
 loop-holds c = let v = c .before .before .args in (omega arith, omega arith, done-none (with-share (v .l) (now (v .key))) (v .m) _, refl)
 
 mul-a : tie.Need-mul-a Inv-loop μ-loop
-mul-a c = let v = c .before .before .before .before .args in omega (arith, part-fits (c .before .loop .i) (suc (v .d)) (v .l) (length (now (v .key))) (omega arith) (omega arith))
+mul-a c =
+    let loop = c .before in
+    let v = loop .before .before .before .args in
+    omega (arith, part-fits (loop .loop .i) (suc (v .d)) (v .l) (length (now (v .key))) (omega arith) (omega arith))
 
 add-e : tie.Need-add-e Inv-loop μ-loop
-add-e c = let v = c .before .before .before .before .args in omega (arith, part-fits (c .before .loop .i) (suc (v .d)) (v .l) (length (now (v .key))) (omega arith) (omega arith))
+add-e c =
+    let loop = c .before in
+    let v = loop .before .before .before .args in
+    omega (arith, part-fits (loop .loop .i) (suc (v .d)) (v .l) (length (now (v .key))) (omega arith) (omega arith))
 
 mul-b : tie.Need-mul-b Inv-loop μ-loop
-mul-b c = let v = c .before .before .before .before .args in omega (arith, part-fits (c .before .loop .i) (suc (v .d)) (v .m) (length (now (v .keys))) (omega arith) (omega arith))
+mul-b c =
+    let loop = c .before in
+    let v = loop .before .before .before .args in
+    omega (arith, part-fits (loop .loop .i) (suc (v .d)) (v .m) (length (now (v .keys))) (omega arith) (omega arith))
 
 add-f : tie.Need-add-f Inv-loop μ-loop
-add-f c = let v = c .before .before .before .before .args in omega (arith, part-fits (c .before .loop .i) (suc (v .d)) (v .m) (length (now (v .keys))) (omega arith) (omega arith))
+add-f c =
+    let loop = c .before in
+    let v = loop .before .before .before .args in
+    omega (arith, part-fits (loop .loop .i) (suc (v .d)) (v .m) (length (now (v .keys))) (omega arith) (omega arith))
 
 sub-put : tie.Need-sub-put Inv-loop μ-loop
 sub-put c = search needs
@@ -44,7 +56,10 @@ part-put-start : tie.Need-part-put-start Inv-loop μ-loop
 part-put-start c = search needs
 
 part-put-end : tie.Need-part-put-end Inv-loop μ-loop
-part-put-end c = let v = c .before .before .before .before .args in omega (arith, part-fits (c .before .loop .i) (suc (v .d)) (v .l) (length (now (v .key))) (omega arith) (omega arith))
+part-put-end c =
+    let loop = c .before in
+    let v = loop .before .before .before .args in
+    omega (arith, part-fits (loop .loop .i) (suc (v .d)) (v .l) (length (now (v .key))) (omega arith) (omega arith))
 
 sub-put-2 : tie.Need-sub-put-2 Inv-loop μ-loop
 sub-put-2 c = search needs
@@ -53,7 +68,10 @@ part-put-start-2 : tie.Need-part-put-start-2 Inv-loop μ-loop
 part-put-start-2 c = search needs
 
 part-put-end-2 : tie.Need-part-put-end-2 Inv-loop μ-loop
-part-put-end-2 c = let v = c .before .before .before .before .before .args in omega (arith, part-fits (c .before .before .loop .i) (suc (v .d)) (v .m) (length (now (v .keys))) (omega arith) (omega arith))
+part-put-end-2 c =
+    let loop = c .before .before in
+    let v = loop .before .before .before .args in
+    omega (arith, part-fits (loop .loop .i) (suc (v .d)) (v .m) (length (now (v .keys))) (omega arith) (omega arith))
 
 put-requires : tie.Need-put-requires Inv-loop μ-loop
 put-requires c κs = search needs
@@ -66,16 +84,19 @@ loop-less c = search needs
 
 loop-again : tie.Need-loop-again Inv-loop μ-loop
 loop-again c =
-    let v = c .before .before .before .before .before .before .before .before .before .args in
-    let l = c .before .before .before .before .before .before .loop in
+    let call = c .before .before in
+    let loop = call .before .before .before .before in
+    let v = loop .before .before .before .args in
+    let l = loop .loop in
+    let n = suc (v .d) in
     let a = l .i * v .l in
     let b = l .i * v .m in
     let e : a + v .l - a ≡ v .l = omega arith in (
       omega arith,
       omega arith,
-      done-more (with-share (v .l) (now (v .key))) (v .m) (suc (v .d)) (with-share-length (v .l) (v .m) (suc (v .d)) (now (v .key)) (omega arith) (omega arith))
+      done-more (with-share (v .l) (now (v .key))) (v .m) n (with-share-length (v .l) (v .m) n (now (v .key)) (omega arith) (omega arith))
           _ (l .keys) _ (l .i) b (b + v .m - b) refl (omega arith) (omega arith) (omega arith) (l .inv .2)
-          (c .before .before .put .ensures ∙ ap (λ (x : ℕ). front (take x (drop a (now (v .key)))) (take (b + v .m - b) (drop b (l .keys)))) e),
+          (call .put .ensures ∙ ap (λ (x : ℕ). front (take x (drop a (now (v .key)))) (take (b + v .m - b) (drop b (l .keys)))) e),
       search needs,
     )
 
@@ -84,9 +105,10 @@ same-length c = search needs
 
 returns : tie.Need-returns Inv-loop μ-loop
 returns c =
-    let v = c .before .before .before .before .args in
+    let loop = c .before in
+    let v = loop .before .before .before .args in
     key-laid (v .d) (v .l) (v .m) (now (v .key)) (now (v .keys)) _ (omega arith) (omega arith) (omega arith)
-    (done-all (with-share (v .l) (now (v .key))) (v .m) (now (v .keys)) _ _ (suc (v .d)) (omega arith) (omega arith) (c .before .loop .inv .2))
+    (done-all (with-share (v .l) (now (v .key))) (v .m) (now (v .keys)) _ _ (suc (v .d)) (omega arith) (omega arith) (loop .loop .inv .2))
 
 pub lay-key-spec : {M : Type 1} → statement M
 lay-key-spec =

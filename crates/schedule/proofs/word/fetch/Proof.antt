@@ -1,6 +1,7 @@
 -- `schedule::word::fetch` meets its contract. Assumes nothing.
 use mathlib.Core.Path.{_≡_, refl, ap, _∙_}
-use Prim.Native.Nat.{suc, _≤_, _+_, _*_, _-_}
+use mathlib.Core.List.{List}
+use Prim.Native.Nat.{ℕ, suc, _≤_, _+_, _*_, _-_}
 use native.Mathlib.Omega.{arith}
 use borrow.Author.Needs.{needs}
 use denote.Ref.{now}
@@ -8,13 +9,19 @@ use lib.ListN.{length, take, drop, length-take, length-drop}
 use Rattle.shares.specs.Strings.{laid}
 use Rattle.schedule.proofs.WordLaws.{word-copied}
 use Rattle.cipher.specs.Fips197.{word}
-use Rattle.state.proofs.PartLaws.{place-lt, Done, done-none, done-more, done-all, word-all, word-long}
+use Rattle.state.proofs.PartLaws.{place-lt}
+use Rattle.state.proofs.ShareLaws.{Done, done-none, done-more, done-all}
+use Rattle.state.proofs.SecondLaws.{word-all, word-long}
 use Rattle.schedule.proofs.word.fetch.Statement.{statement}
 use Rattle.schedule.proofs.word.fetch.Tie as tie
 
+-- word w of share i, whatever stood in its place
+abbrev fetched : (m w : ℕ) (keys : List ℕ) → ℕ → List ℕ → List ℕ
+fetched m w keys i p = word (take m (drop (i * m) keys)) w
+
 abbrev Inv-loop : tie.InvT-loop
 Inv-loop d m w keys t₀ i₀ i-end t i =
-    (i ≤ suc d) × (i-end ≡ suc d) × Done (λ i p. word (take m (drop (i * m) keys)) w) 4 t₀ i t × (length t ≡ length t₀)
+    (i ≤ suc d) × (i-end ≡ suc d) × Done (fetched m w keys) 4 t₀ i t × (length t ≡ length t₀)
 
 abbrev μ-loop : tie.MeasureT-loop
 μ-loop d m w keys t₀ i₀ i-end t i = i-end - i
@@ -23,7 +30,7 @@ add-i-end : tie.Need-add-i-end Inv-loop μ-loop
 add-i-end c = search needs
 
 loop-holds : tie.Need-loop-holds Inv-loop μ-loop
-loop-holds c = let v = c .before .before .args in (omega arith, omega arith, done-none (λ i p. word (take (v .m) (drop (i * v .m) (now (v .keys)))) (v .w)) 4 _, refl)
+loop-holds c = let v = c .before .before .args in (omega arith, omega arith, done-none (fetched (v .m) (v .w) (now (v .keys))) 4 _, refl)
 
 mul-a : tie.Need-mul-a Inv-loop μ-loop
 mul-a c = search needs
@@ -32,16 +39,25 @@ add-e : tie.Need-add-e Inv-loop μ-loop
 add-e c = search needs
 
 mul-b : tie.Need-mul-b Inv-loop μ-loop
-mul-b c = let v = c .before .before .before .before .args in omega (arith, place-lt (suc (v .d)) (v .m) (c .before .loop .i) (4 * v .w + 3) (omega arith) (omega arith))
+mul-b c =
+    let loop = c .before in
+    let v = loop .before .before .before .args in
+    omega (arith, place-lt (suc (v .d)) (v .m) (loop .loop .i) (4 * v .w + 3) (omega arith) (omega arith))
 
 mul-b-2 : tie.Need-mul-b-2 Inv-loop μ-loop
 mul-b-2 c = search needs
 
 add-b : tie.Need-add-b Inv-loop μ-loop
-add-b c = let v = c .before .before .before .before .args in omega (arith, place-lt (suc (v .d)) (v .m) (c .before .loop .i) (4 * v .w + 3) (omega arith) (omega arith))
+add-b c =
+    let loop = c .before in
+    let v = loop .before .before .before .args in
+    omega (arith, place-lt (suc (v .d)) (v .m) (loop .loop .i) (4 * v .w + 3) (omega arith) (omega arith))
 
 add-f : tie.Need-add-f Inv-loop μ-loop
-add-f c = let v = c .before .before .before .before .args in omega (arith, place-lt (suc (v .d)) (v .m) (c .before .loop .i) (4 * v .w + 3) (omega arith) (omega arith))
+add-f c =
+    let loop = c .before in
+    let v = loop .before .before .before .args in
+    omega (arith, place-lt (suc (v .d)) (v .m) (loop .loop .i) (4 * v .w + 3) (omega arith) (omega arith))
 
 sub-put : tie.Need-sub-put Inv-loop μ-loop
 sub-put c = search needs
@@ -50,7 +66,10 @@ part-put-start : tie.Need-part-put-start Inv-loop μ-loop
 part-put-start c = search needs
 
 part-put-end : tie.Need-part-put-end Inv-loop μ-loop
-part-put-end c = let v = c .before .before .before .before .args in omega (arith, place-lt (suc (v .d)) (v .m) (c .before .loop .i) (4 * v .w + 3) (omega arith) (omega arith))
+part-put-end c =
+    let loop = c .before in
+    let v = loop .before .before .before .args in
+    omega (arith, place-lt (suc (v .d)) (v .m) (loop .loop .i) (4 * v .w + 3) (omega arith) (omega arith))
 
 sub-put-2 : tie.Need-sub-put-2 Inv-loop μ-loop
 sub-put-2 c = search needs
@@ -72,17 +91,22 @@ loop-less c = search needs
 
 loop-again : tie.Need-loop-again Inv-loop μ-loop
 loop-again c =
-    let v = c .before .before .before .before .before .before .before .before .before .args in
-    let l = c .before .before .before .before .before .before .loop in
+    let call = c .before .before in
+    let loop = call .before .before .before .before in
+    let v = loop .before .before .before .args in
+    let l = loop .loop in
     let a = l .i * 4 in
     let b = l .i * v .m + 4 * v .w in
-    let p : length (take (a + 4 - a) (drop a (l .t))) ≡ 4 = simp (length-take, length-drop) (omega arith) in (
+    let n = suc (v .d) in
+    let keys = now (v .keys) in
+    let p : length (take (a + 4 - a) (drop a (l .t))) ≡ 4 = simp (length-take, length-drop) (omega arith) in
+    let copied =
+    word-copied (v .m) (v .w) (l .i) n b (b + 4 - b) keys _ _ (omega arith) (omega arith) (omega arith) refl (omega arith) p (call .put .ensures)
+    in (
       omega arith,
       omega arith,
-      done-more (λ i p. word (take (v .m) (drop (i * v .m) (now (v .keys)))) (v .w)) 4 (suc (v .d))
-          (λ i u p h. word-long (v .m) (v .w) i (suc (v .d)) (now (v .keys)) (omega arith) u (omega arith)) _ (l .t) _ (l .i) a (a + 4 - a) refl (omega arith)
-          (omega arith) (omega arith) (l .inv .2)
-          (word-copied (v .m) (v .w) (l .i) (suc (v .d)) b (b + 4 - b) (now (v .keys)) _ _ (omega arith) (omega arith) (omega arith) refl (omega arith) p (c .before .before .put .ensures)),
+      done-more (fetched (v .m) (v .w) keys) 4 n (λ i u p h. word-long (v .m) (v .w) i n keys (omega arith) u (omega arith)) _ (l .t) _ (l .i) a
+          (a + 4 - a) refl (omega arith) (omega arith) (omega arith) (l .inv .2) copied,
       search needs,
     )
 
@@ -91,8 +115,9 @@ same-length c = search needs
 
 returns : tie.Need-returns Inv-loop μ-loop
 returns c =
-    let v = c .before .before .before .before .args in
-    done-all (λ i p. word (take (v .m) (drop (i * v .m) (now (v .keys)))) (v .w)) 4 (now (v .t)) _ _ (suc (v .d)) (omega arith) (omega arith) (c .before .loop .inv .2)
+    let loop = c .before in
+    let v = loop .before .before .before .args in
+    done-all (fetched (v .m) (v .w) (now (v .keys))) 4 (now (v .t)) _ _ (suc (v .d)) (omega arith) (omega arith) (loop .loop .inv .2)
     ∙ ap laid (word-all (v .m) (v .w) (suc (v .d)) (now (v .keys)) (now (v .t)))
 
 pub fetch-spec : {M : Type 1} → statement M

@@ -16,60 +16,61 @@ div-turned-temp c = search needs
 
 turned-temp-requires : tie.Need-turned-temp-requires
 turned-temp-requires c κs =
-    let v = c .before .before .before .before .before .before .before .before .args in
-    let test = c .before .before .before in
-    let e = kind-turned (v .nk) (v .i) (omega (arith, test)) in
-    (c .before .before .before .before .before .before .before .before .pre .0, some-turn (v .nk) (v .i) (c .before .before .before .before .before .before .before .before .pre .1) (c .before .before .before .before .before .before .before .before .pre .2), search needs, search needs, search needs, need-turned (v .nk) (v .d) (v .i) _ e (c .before .before .before .before .before .before .before .before .pre .6), c .before .before .before .before .before .before .before .before .pre .7)
+    let start = c .before .before .before .before in
+    let v = start .args in
+    let fit = start .pre .0 in
+    let e = kind-turned (v .nk) (v .i) (omega arith) in (
+      record {
+        order = fit .order;
+        some = some-turn (v .nk) (v .i) (fit .some) (fit .past);
+        long = fit .long;
+        drawn = need-turned (v .nk) (v .d) (v .i) _ e (fit .drawn);
+      },
+      search needs,
+    )
 
 same-length : tie.Need-same-length
 same-length c = search needs
 
-same-length-2 : tie.Need-same-length-2
-same-length-2 c = search needs
-
-same-length-3 : tie.Need-same-length-3
-same-length-3 c = search needs
-
 returns : tie.Need-returns
 unfolding temp-need
 returns c =
-    let v = c .before .before .before .before .before .before .before .before .before .before .before .before .before .before .before .args in
-    let test = c .before .before .before .before .before .before .before .before .before .before in
-    let q = c .before .before .before .before .before .before .turned-temp in
-    temp-says (v .nk) (v .d) (v .i) turned (now (v .tape)) (now (v .t)) _ (q .result) (kind-turned (v .nk) (v .i) (omega (arith, test))) (q .ensures .0) (q .ensures .1)
+    let made = c .before .before in
+    let v = made .before .before .before .before .before .args in
+    let q = made .turned-temp in
+    let e = kind-turned (v .nk) (v .i) (omega arith) in
+    temp-says (v .nk) (v .d) (v .i) turned (now (v .tape)) (now (v .t)) _ (q .result) e (q .ensures .0) (q .ensures .1)
 
 sub-word-requires : tie.Need-sub-word-requires
 sub-word-requires c κs =
-    let v = c .before .before .before .before .before .before .before .before .before .before .args in
-    let test = c .before .before .before in
-    let e = kind-subbed (v .nk) (v .i) (omega (arith, test)) (omega (arith, test)) in
-    (c .before .before .before .before .before .before .before .before .before .before .pre .0, search needs, search needs, search needs, need-subbed (v .nk) (v .d) (v .i) _ e (c .before .before .before .before .before .before .before .before .before .before .pre .6), c .before .before .before .before .before .before .before .before .before .before .pre .7)
+    let start = c .before .before .before .before .before .before in
+    let v = start .args in
+    let fit = start .pre .0 in
+    let e = kind-subbed (v .nk) (v .i) (omega arith) (omega arith) in
+    (fit .order, fit .long, need-subbed (v .nk) (v .d) (v .i) _ e (fit .drawn), search needs)
 
-same-length-4 : tie.Need-same-length-4
-same-length-4 c = search needs
-
-same-length-5 : tie.Need-same-length-5
-same-length-5 c = search needs
-
-same-length-6 : tie.Need-same-length-6
-same-length-6 c = search needs
+same-length-2 : tie.Need-same-length-2
+same-length-2 c = search needs
 
 returns-2 : tie.Need-returns-2
 returns-2 c =
-    let v = c .before .before .before .before .before .before .before .before .before .before .before .before .before .before .before .before .before .args in
-    let test = c .before .before .before .before .before .before .before .before .before .before in
-    let q = c .before .before .before .before .before .before .sub-word in
-    subbed-says (v .nk) (v .d) (v .i) (now (v .tape)) (now (v .t)) _ (q .result) (kind-subbed (v .nk) (v .i) (omega (arith, test)) (omega (arith, test))) (q .ensures .0) (q .ensures .1)
+    let made = c .before .before in
+    let v = made .before .before .before .before .before .before .before .args in
+    let q = made .sub-word in
+    let e = kind-subbed (v .nk) (v .i) (omega arith) (omega arith) in
+    subbed-says (v .nk) (v .d) (v .i) (now (v .tape)) (now (v .t)) _ (q .result) e (q .ensures .0) (q .ensures .1)
 
 returns-3 : tie.Need-returns-3
 returns-3 c =
-    let v = c .before .before .before .before .before .before .before .args in
-    plain-says (v .nk) (v .d) (v .i) (now (v .tape)) (now (v .t)) (kind-plain (v .nk) (v .i) (λ z. omega arith) (λ u w. omega arith)) (omega arith)
+    let v = c .before .before .before .before .before .args in
+    let e = kind-plain (v .nk) (v .i) (λ z. omega arith) (λ u w. omega arith) in
+    plain-says (v .nk) (v .d) (v .i) (now (v .tape)) (now (v .t)) e (omega arith)
 
 returns-4 : tie.Need-returns-4
 returns-4 c =
-    let v = c .before .before .before .before .before .before .args in
-    plain-says (v .nk) (v .d) (v .i) (now (v .tape)) (now (v .t)) (kind-plain (v .nk) (v .i) (λ z. omega arith) (λ u w. omega arith)) (omega arith)
+    let v = c .before .before .before .before .args in
+    let e = kind-plain (v .nk) (v .i) (λ z. omega arith) (λ u w. omega arith) in
+    plain-says (v .nk) (v .d) (v .i) (now (v .tape)) (now (v .t)) e (omega arith)
 
 pub make-temp-spec : {M : Type 1} → statement M
 make-temp-spec =
@@ -79,13 +80,9 @@ make-temp-spec =
     div-turned-temp
     turned-temp-requires
     same-length
-    same-length-2
-    same-length-3
     returns
     sub-word-requires
-    same-length-4
-    same-length-5
-    same-length-6
+    same-length-2
     returns-2
     returns-3
     returns-4)

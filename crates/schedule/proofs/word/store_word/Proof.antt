@@ -50,9 +50,11 @@ loop-less c = search needs
 
 loop-again : tie.Need-loop-again Inv-loop μ-loop
 loop-again c =
-    let v = c .before .before .before .before .args in
-    let l = c .before .before .before .loop in
-    (omega arith, storing-more (v .nk) (v .i) (now (v .t)) (now (v .k)) (omega arith) (omega arith) (omega arith) (omega arith) (l .b) (l .k) (omega arith) (l .inv .1), simp length-set (omega arith))
+    let loop = c .before .before .before in
+    let v = loop .before .args in
+    let l = loop .loop in
+    let more = storing-more (v .nk) (v .i) (now (v .t)) (now (v .k)) (omega arith) (omega arith) (omega arith) (omega arith) in
+    (omega arith, more (l .b) (l .k) (omega arith) (l .inv .1), simp length-set (omega arith))
 
 same-length : tie.Need-same-length Inv-loop μ-loop
 same-length c = search needs
@@ -61,7 +63,8 @@ returns : tie.Need-returns Inv-loop μ-loop
 returns c =
     let v = c .before .before .args in
     let l = c .before .loop in
-    storing-done (v .nk) (v .i) (now (v .t)) (now (v .k)) (omega arith) (omega arith) (omega arith) (omega arith) (l .b) (l .k) (omega arith) (l .inv .1)
+    storing-done (v .nk) (v .i) (now (v .t)) (now (v .k)) (omega arith) (omega arith) (omega arith) (omega arith)
+    (l .b) (l .k) (omega arith) (l .inv .1)
 
 pub store-word-spec : {M : Type 1} → statement M
 store-word-spec =

@@ -22,19 +22,17 @@ slice-write-t : tie.Need-slice-write-t
 slice-write-t c = search needs
 
 same-length : tie.Need-same-length
-same-length c = search needs
-
-same-length-2 : tie.Need-same-length-2
-same-length-2 c = search needs
-
-same-length-3 : tie.Need-same-length-3
-same-length-3 c = simp length-set (search needs)
+same-length c = simp length-set (search needs)
 
 returns : tie.Need-returns
 returns c =
-    let v = c .before .before .before .before .before .before .before .before .before .before .before .before .before .before .before .before .before .before .before .before .args in
-    let boxed = c .before .before .before .before .before .before .before .before .before .before .before .before .sub-word in
-    (boxed .ensures .0, turned-is (v .d) (v .j) _ (now (v .tape)) (now (v .t)) _ _ (c .before .before .before .before .before .before .before .before .before .before .before .before .before .before .before .before .before .before .before .before .pre .2) (boxed .ensures .1) (c .before .before .before .before .rot-all .ensures) (c .rcon .ensures))
+    let turned = c .before .before .before .before in
+    let boxed = turned .before .before .before .before in
+    let start = boxed .before .before .before .before in
+    let v = start .args in
+    let word = boxed .sub-word .ensures in
+    let made = turned-is (v .d) (v .j) _ (now (v .tape)) (now (v .t)) _ _ (start .pre .0 .long) (word .1) (turned .rot-all .ensures) in
+    (word .0, made (c .rcon .ensures))
 
 pub turned-temp-spec : {M : Type 1} → statement M
 turned-temp-spec =
@@ -46,6 +44,4 @@ turned-temp-spec =
     rcon-requires
     slice-write-t
     same-length
-    same-length-2
-    same-length-3
     returns)

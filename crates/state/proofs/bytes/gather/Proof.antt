@@ -23,13 +23,22 @@ loop-holds : tie.Need-loop-holds Inv-loop μ-loop
 loop-holds c = (omega arith, omega arith, over-none _ _, omega arith)
 
 mul-x : tie.Need-mul-x Inv-loop μ-loop
-mul-x c = let a = c .before .before .args in omega (arith, place-lt (suc (a .d)) (a .l) (c .before .loop .i) (a .k) (omega arith) (omega arith))
+mul-x c =
+    let loop = c .before in
+    let a = loop .before .args in
+    omega (arith, place-lt (suc (a .d)) (a .l) (loop .loop .i) (a .k) (omega arith) (omega arith))
 
 add-x : tie.Need-add-x Inv-loop μ-loop
-add-x c = let a = c .before .before .args in omega (arith, place-lt (suc (a .d)) (a .l) (c .before .loop .i) (a .k) (omega arith) (omega arith))
+add-x c =
+    let loop = c .before in
+    let a = loop .before .args in
+    omega (arith, place-lt (suc (a .d)) (a .l) (loop .loop .i) (a .k) (omega arith) (omega arith))
 
 shared-slice-read-x : tie.Need-shared-slice-read-x Inv-loop μ-loop
-shared-slice-read-x c = let a = c .before .before .before .args in omega (arith, place-lt (suc (a .d)) (a .l) (c .before .before .loop .i) (a .k) (omega arith) (omega arith))
+shared-slice-read-x c =
+    let loop = c .before .before in
+    let a = loop .before .args in
+    omega (arith, place-lt (suc (a .d)) (a .l) (loop .loop .i) (a .k) (omega arith) (omega arith))
 
 slice-write-x : tie.Need-slice-write-x Inv-loop μ-loop
 slice-write-x c = search needs

@@ -25,13 +25,22 @@ shared-slice-read-s : tie.Need-shared-slice-read-s Inv-loop μ-loop
 shared-slice-read-s c = search needs
 
 mul-s : tie.Need-mul-s Inv-loop μ-loop
-mul-s c = let a = c .before .before .before .args in omega (arith, place-lt (suc (a .d)) (a .l) (c .before .before .loop .i) (a .k) (omega arith) (omega arith))
+mul-s c =
+    let loop = c .before .before in
+    let a = loop .before .args in
+    omega (arith, place-lt (suc (a .d)) (a .l) (loop .loop .i) (a .k) (omega arith) (omega arith))
 
 add-s : tie.Need-add-s Inv-loop μ-loop
-add-s c = let a = c .before .before .before .args in omega (arith, place-lt (suc (a .d)) (a .l) (c .before .before .loop .i) (a .k) (omega arith) (omega arith))
+add-s c =
+    let loop = c .before .before in
+    let a = loop .before .args in
+    omega (arith, place-lt (suc (a .d)) (a .l) (loop .loop .i) (a .k) (omega arith) (omega arith))
 
 slice-write-s : tie.Need-slice-write-s Inv-loop μ-loop
-slice-write-s c = let a = c .before .before .before .args in omega (arith, place-lt (suc (a .d)) (a .l) (c .before .before .loop .i) (a .k) (omega arith) (omega arith))
+slice-write-s c =
+    let loop = c .before .before in
+    let a = loop .before .args in
+    omega (arith, place-lt (suc (a .d)) (a .l) (loop .loop .i) (a .k) (omega arith) (omega arith))
 
 add-i : tie.Need-add-i Inv-loop μ-loop
 add-i c = search needs
@@ -42,7 +51,8 @@ loop-less c = search needs
 loop-again : tie.Need-loop-again Inv-loop μ-loop
 loop-again c =
     let l = c .before .before .loop in
-    (omega arith, omega arith, scattered-more _ _ _ _ _ _ (l .i) (omega arith) (omega arith) (omega arith) (omega arith) (l .inv .2), simp length-set (omega arith))
+    let more = scattered-more _ _ _ _ _ _ (l .i) (omega arith) (omega arith) (omega arith) (omega arith) (l .inv .2) in
+    (omega arith, omega arith, more, simp length-set (omega arith))
 
 same-length : tie.Need-same-length Inv-loop μ-loop
 same-length c = search needs

@@ -6,7 +6,9 @@ use borrow.Author.Needs.{needs}
 use denote.Ref.{now}
 use lib.ListN.{length}
 use Rattle.shares.specs.Strings.{laid}
-use Rattle.state.proofs.PartLaws.{place-lt, Done, done-none, done-more, done-all, with-key, with-key-length, with-key-part, with-key-all}
+use Rattle.state.proofs.PartLaws.{place-lt}
+use Rattle.state.proofs.ShareLaws.{Done, done-none, done-more, done-all}
+use Rattle.state.proofs.SecondLaws.{with-key, with-key-length, with-key-part, with-key-all}
 use Rattle.state.proofs.linear.add_key.Statement.{statement}
 use Rattle.state.proofs.linear.add_key.Tie as tie
 
@@ -29,16 +31,25 @@ add-e : tie.Need-add-e Inv-loop μ-loop
 add-e c = search needs
 
 mul-b : tie.Need-mul-b Inv-loop μ-loop
-mul-b c = let a = c .before .before .before .before .args in omega (arith, place-lt (suc (a .d)) (a .m) (c .before .loop .i) (16 * a .r + 15) (omega arith) (omega arith))
+mul-b c =
+    let loop = c .before in
+    let a = loop .before .before .before .args in
+    omega (arith, place-lt (suc (a .d)) (a .m) (loop .loop .i) (16 * a .r + 15) (omega arith) (omega arith))
 
 mul-b-2 : tie.Need-mul-b-2 Inv-loop μ-loop
 mul-b-2 c = search needs
 
 add-b : tie.Need-add-b Inv-loop μ-loop
-add-b c = let a = c .before .before .before .before .args in omega (arith, place-lt (suc (a .d)) (a .m) (c .before .loop .i) (16 * a .r + 15) (omega arith) (omega arith))
+add-b c =
+    let loop = c .before in
+    let a = loop .before .before .before .args in
+    omega (arith, place-lt (suc (a .d)) (a .m) (loop .loop .i) (16 * a .r + 15) (omega arith) (omega arith))
 
 add-f : tie.Need-add-f Inv-loop μ-loop
-add-f c = let a = c .before .before .before .before .args in omega (arith, place-lt (suc (a .d)) (a .m) (c .before .loop .i) (16 * a .r + 15) (omega arith) (omega arith))
+add-f c =
+    let loop = c .before in
+    let a = loop .before .before .before .args in
+    omega (arith, place-lt (suc (a .d)) (a .m) (loop .loop .i) (16 * a .r + 15) (omega arith) (omega arith))
 
 sub-xor-into : tie.Need-sub-xor-into Inv-loop μ-loop
 sub-xor-into c = search needs
@@ -47,7 +58,10 @@ part-xor-into-start : tie.Need-part-xor-into-start Inv-loop μ-loop
 part-xor-into-start c = search needs
 
 part-xor-into-end : tie.Need-part-xor-into-end Inv-loop μ-loop
-part-xor-into-end c = let a = c .before .before .before .before .args in omega (arith, place-lt (suc (a .d)) (a .m) (c .before .loop .i) (16 * a .r + 15) (omega arith) (omega arith))
+part-xor-into-end c =
+    let loop = c .before in
+    let a = loop .before .before .before .args in
+    omega (arith, place-lt (suc (a .d)) (a .m) (loop .loop .i) (16 * a .r + 15) (omega arith) (omega arith))
 
 sub-xor-into-2 : tie.Need-sub-xor-into-2 Inv-loop μ-loop
 sub-xor-into-2 c = search needs
@@ -69,13 +83,17 @@ loop-less c = search needs
 
 loop-again : tie.Need-loop-again Inv-loop μ-loop
 loop-again c =
-    let a = c .before .before .before .before .before .before .before .before .before .args in
-    let l = c .before .before .before .before .before .before .loop in
-    let b = l .i * a .m + 16 * a .r in (
+    let added = c .before .before in
+    let loop = added .before .before .before .before in
+    let a = loop .before .before .before .args in
+    let l = loop .loop in
+    let b = l .i * a .m + 16 * a .r in
+    let f = with-key (a .m) (a .r) (now (a .keys)) in (
       omega arith,
       omega arith,
-      done-more (with-key (a .m) (a .r) (now (a .keys))) 16 (suc (a .d)) (λ i u p h. with-key-length (a .m) (a .r) (now (a .keys)) i p h) _ (l .s) _ (l .i) (l .i * 16) (l .i * 16 + 16 - l .i * 16) refl (omega arith) (omega arith)
-          (omega arith) (l .inv .2) (c .before .before .xor-into .ensures ∙ with-key-part (a .m) (a .r) (l .i) b (b + 16 - b) (now (a .keys)) _ (omega arith) refl (omega arith)),
+      done-more f 16 (suc (a .d)) (λ i u p h. with-key-length (a .m) (a .r) (now (a .keys)) i p h) _ (l .s) _ (l .i) (l .i * 16)
+          (l .i * 16 + 16 - l .i * 16) refl (omega arith) (omega arith) (omega arith) (l .inv .2)
+          (added .xor-into .ensures ∙ with-key-part (a .m) (a .r) (l .i) b (b + 16 - b) (now (a .keys)) _ (omega arith) refl (omega arith)),
       search needs,
     )
 
@@ -84,8 +102,9 @@ same-length c = search needs
 
 returns : tie.Need-returns Inv-loop μ-loop
 returns c =
-    let a = c .before .before .before .before .args in
-    done-all (with-key (a .m) (a .r) (now (a .keys))) 16 (now (a .s)) _ _ (suc (a .d)) (omega arith) (omega arith) (c .before .loop .inv .2)
+    let loop = c .before in
+    let a = loop .before .before .before .args in
+    done-all (with-key (a .m) (a .r) (now (a .keys))) 16 (now (a .s)) _ _ (suc (a .d)) (omega arith) (omega arith) (loop .loop .inv .2)
     ∙ ap laid (with-key-all (a .m) (a .r) (suc (a .d)) (now (a .keys)) (now (a .s)))
 
 pub add-key-spec : {M : Type 1} → statement M

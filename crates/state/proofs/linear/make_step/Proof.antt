@@ -24,14 +24,20 @@ same-length c = search needs
 
 returns : tie.Need-returns
 returns c =
-    c .before .before .shift-rows .ensures ∙ sym (ap (λ (w : Step). stepped w (c .before .before .before .before .before .before .before .before .args .which) (now (c .before .before .before .before .before .before .before .before .args .t))) (c .before .before .before .before .enum-told .given .1))
+    let made = c .before .before in
+    let told = made .before .before in
+    let a = told .before .before .before .before .args in
+    made .shift-rows .ensures ∙ sym (ap (λ (w : Step). stepped w (a .which) (now (a .t))) (told .enum-told .given .1))
 
 same-length-2 : tie.Need-same-length-2
 same-length-2 c = search needs
 
 returns-2 : tie.Need-returns-2
 returns-2 c =
-    c .before .before .mix-columns .ensures ∙ sym (ap (λ (w : Step). stepped w (c .before .before .before .before .before .before .before .before .args .which) (now (c .before .before .before .before .before .before .before .before .args .t))) (c .before .before .before .before .enum-told2 .given .1))
+    let made = c .before .before in
+    let told = made .before .before in
+    let a = told .before .before .before .before .args in
+    made .mix-columns .ensures ∙ sym (ap (λ (w : Step). stepped w (a .which) (now (a .t))) (told .enum-told2 .given .1))
 
 pub make-step-spec : {M : Type 1} → statement M
 make-step-spec =

@@ -29,7 +29,9 @@ unfolding cell at
 read-next t k j h = let e : 4 * (k / 4) + (k % 4 + j) % 4 ≡ (k % 4 + j) % 4 + 4 * (k / 4 % 4) = omega arith in ap (λ (i : ℕ). getD t i 0) e
 
 read : (w : Direction) (t : List ℕ) (k : ℕ) → k < 16
-    → mixed-of w (getD t (4 * (k / 4) + k % 4) 0) (getD t (4 * (k / 4) + (k % 4 + 1) % 4) 0) (getD t (4 * (k / 4) + (k % 4 + 2) % 4) 0) (getD t (4 * (k / 4) + (k % 4 + 3) % 4) 0) ≡ mixed-byte w t k
+    → mixed-of w (getD t (4 * (k / 4) + k % 4) 0) (getD t (4 * (k / 4) + (k % 4 + 1) % 4) 0)
+    (getD t (4 * (k / 4) + (k % 4 + 2) % 4) 0) (getD t (4 * (k / 4) + (k % 4 + 3) % 4) 0)
+    ≡ mixed-byte w t k
 read w t k h = cc (read-first t k h, read-next t k 1 h, read-next t k 2 h, read-next t k 3 h)
 
 abbrev Inv-loop : tie.InvT-loop
@@ -91,9 +93,11 @@ loop-less c = search needs
 
 loop-again : tie.Need-loop-again Inv-loop μ-loop
 loop-again c =
-    let a = c .before .before .before .before .before .before .before .before .before .args in
-    let l = c .before .before .before .before .before .before .loop in
-    (omega arith, over-more _ (l .k) _ (l .s) (now (a .s)) (l .inv .1) (c .mix-by .ensures ∙ read (a .which) (now (a .t)) (l .k) (omega arith)) (omega arith), simp length-set (omega arith))
+    let loop = c .before .before .before .before .before .before in
+    let a = loop .before .before .before .args in
+    let l = loop .loop in
+    let byte = c .mix-by .ensures ∙ read (a .which) (now (a .t)) (l .k) (omega arith) in
+    (omega arith, over-more _ (l .k) _ (l .s) (now (a .s)) (l .inv .1) byte (omega arith), simp length-set (omega arith))
 
 same-length : tie.Need-same-length Inv-loop μ-loop
 same-length c = search needs
@@ -101,9 +105,10 @@ same-length c = search needs
 returns : tie.Need-returns Inv-loop μ-loop
 unfolding state
 returns c =
-    let a = c .before .before .before .before .args in
-    let e : c .before .loop .k ≡ 16 = omega arith in
-    over-all _ 16 _ _ (rw e at (c .before .loop .inv .1)) (omega arith) ∙ columns-mixed (a .which) (now (a .t))
+    let loop = c .before in
+    let a = loop .before .before .before .args in
+    let e : loop .loop .k ≡ 16 = omega arith in
+    over-all _ 16 _ _ (rw e at (loop .loop .inv .1)) (omega arith) ∙ columns-mixed (a .which) (now (a .t))
 
 pub mix-columns-spec : {M : Type 1} → statement M
 mix-columns-spec =

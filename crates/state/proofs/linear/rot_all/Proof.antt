@@ -6,7 +6,7 @@ use borrow.Author.Needs.{needs}
 use lib.ListN.{length}
 use Rattle.cipher.specs.Fips197.{rot-word}
 use Rattle.cipher.proofs.FipsLaws.{rot-word-length}
-use Rattle.state.proofs.PartLaws.{Done, done-none, done-more, done-map}
+use Rattle.state.proofs.ShareLaws.{Done, done-none, done-more, done-map}
 use Rattle.state.proofs.linear.rot_all.Statement.{statement}
 use Rattle.state.proofs.linear.rot_all.Tie as tie
 
@@ -48,10 +48,14 @@ loop-less c = search needs
 
 loop-again : tie.Need-loop-again Inv-loop μ-loop
 loop-again c =
-    let l = c .before .before .before .before .before .loop in (
+    let made = c .before .before in
+    let loop = made .before .before .before in
+    let l = loop .loop in
+    let n = suc (loop .before .before .args .d) in (
       omega arith,
       omega arith,
-      done-more (λ i. rot-word) 4 (suc (c .before .before .before .before .before .before .before .args .d)) (λ i u s h. rot-word-length s) _ (l .s) _ (l .i) (l .i * 4) (l .i * 4 + 4 - l .i * 4) refl (omega arith) (omega arith) (omega arith) (l .inv .2) (c .before .before .rot-word .ensures),
+      done-more (λ i. rot-word) 4 n (λ i u s h. rot-word-length s) _ (l .s) _ (l .i) (l .i * 4) (l .i * 4 + 4 - l .i * 4) refl (omega arith)
+          (omega arith) (omega arith) (l .inv .2) (made .rot-word .ensures),
       search needs,
     )
 

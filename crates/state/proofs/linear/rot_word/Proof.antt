@@ -38,14 +38,17 @@ slice-write-s-4 c = search needs
 same-length : tie.Need-same-length
 same-length c = search needs
 
--- four bytes, each moved to the place before it
-turned : (w : List ℕ) → length w ≡ 4
-    → set (set (set (set w 0 (getD w 1 0)) 1 (getD (set w 0 (getD w 1 0)) 2 0)) 2 (getD (set (set w 0 (getD w 1 0)) 1 (getD (set w 0 (getD w 1 0)) 2 0)) 3 0)) 3 (getD w 0 0) ≡ rot-word w
+-- the four stores: each byte moved to the place before it
+abbrev stores : List ℕ → List ℕ
+stores w =
+    let one = set w 0 (getD w 1 0) in
+    let two = set one 1 (getD one 2 0) in
+    let three = set two 2 (getD two 3 0) in
+    set three 3 (getD w 0 0)
+
+turned : (w : List ℕ) → length w ≡ 4 → stores w ≡ rot-word w
 unfolding rot-word at tab runs
-turned =
-    every 4
-    (λ w. set (set (set (set w 0 (getD w 1 0)) 1 (getD (set w 0 (getD w 1 0)) 2 0)) 2 (getD (set (set w 0 (getD w 1 0)) 1 (getD (set w 0 (getD w 1 0)) 2 0)) 3 0)) 3 (getD w 0 0) ≡ rot-word w)
-    (λ a b c d. refl)
+turned = every 4 (λ w. stores w ≡ rot-word w) (λ a b c d. refl)
 
 returns : tie.Need-returns
 returns c = turned _ (omega arith)

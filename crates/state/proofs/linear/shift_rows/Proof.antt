@@ -59,9 +59,11 @@ loop-less c = search needs
 
 loop-again : tie.Need-loop-again Inv-loop μ-loop
 loop-again c =
-    let a = c .before .before .before .before .before .before .args in
-    let l = c .before .before .before .loop in
-    (omega arith, over-more _ (l .k) _ (l .s) (now (a .s)) (l .inv .1) (read (a .which) (now (a .t)) (l .k) _ (c .before .turn .ensures .0)) (omega arith), simp length-set (omega arith))
+    let loop = c .before .before .before in
+    let a = loop .before .before .before .args in
+    let l = loop .loop in
+    let byte = read (a .which) (now (a .t)) (l .k) _ (c .before .turn .ensures .0) in
+    (omega arith, over-more _ (l .k) _ (l .s) (now (a .s)) (l .inv .1) byte (omega arith), simp length-set (omega arith))
 
 same-length : tie.Need-same-length Inv-loop μ-loop
 same-length c = search needs
@@ -69,9 +71,10 @@ same-length c = search needs
 returns : tie.Need-returns Inv-loop μ-loop
 unfolding state
 returns c =
-    let a = c .before .before .before .before .args in
-    let e : c .before .loop .k ≡ 16 = omega arith in
-    over-all _ 16 _ _ (rw e at (c .before .loop .inv .1)) (omega arith) ∙ rows-turned (a .which) (now (a .t))
+    let loop = c .before in
+    let a = loop .before .before .before .args in
+    let e : loop .loop .k ≡ 16 = omega arith in
+    over-all _ 16 _ _ (rw e at (loop .loop .inv .1)) (omega arith) ∙ rows-turned (a .which) (now (a .t))
 
 pub shift-rows-spec : {M : Type 1} → statement M
 shift-rows-spec =

@@ -1,42 +1,50 @@
 -- `state::substitution::sub_place` meets its contract. Assumes nothing.
-use mathlib.Core.Path.{_∙_}
-use Rattle.state.proofs.SubLaws.{sub-made}
+use native.Mathlib.Omega.{arith}
 use borrow.Author.Needs.{needs}
 use Rattle.state.proofs.substitution.sub_place.Statement.{statement}
 use Rattle.state.proofs.substitution.sub_place.Tie as tie
 
-gather-requires : tie.Need-gather-requires
-gather-requires c κs = search needs
+add-n : tie.Need-add-n
+add-n c = search needs
 
-box-by-requires : tie.Need-box-by-requires
-box-by-requires c κs =
-    let g = c .before .before .before .before in
-    let p = g .before .before .before .before .before .before .before .pre in
-    (p .0, g .gather .kept .1 .1 .1 .1 .0 ∙ p .3, p .4, p .5, p .6)
+sub-sub-with : tie.Need-sub-sub-with
+sub-sub-with c = search needs
 
-scatter-requires : tie.Need-scatter-requires
-scatter-requires c κs = search needs
+part-x-start : tie.Need-part-x-start
+part-x-start c = search needs
+
+part-x-end : tie.Need-part-x-end
+part-x-end c = search needs
+
+sub-sub-with-2 : tie.Need-sub-sub-with-2
+sub-sub-with-2 c = search needs
+
+part-y-start : tie.Need-part-y-start
+part-y-start c = search needs
+
+part-y-end : tie.Need-part-y-end
+part-y-end c = search needs
+
+sub-with-requires : tie.Need-sub-with-requires
+sub-with-requires c κs = (search needs, omega arith, omega arith, search needs)
 
 same-length : tie.Need-same-length
 same-length c = search needs
 
-same-length-2 : tie.Need-same-length-2
-same-length-2 c = search needs
-
-same-length-3 : tie.Need-same-length-3
-same-length-3 c = search needs
-
 returns : tie.Need-returns
-returns c = let boxed = c .before .before .before .before .before .before .before .before .before .box-by in (boxed .ensures .0, sub-made _ _ _ _ _ _ _ _ _ (c .before .before .before .before .before .before .before .before .before .before .before .before .before .before .gather .ensures) (boxed .ensures .1) (c .before .before .scatter .ensures))
+returns c = search needs
 
 pub sub-place-spec : {M : Type 1} → statement M
 sub-place-spec =
     tie.close
     (tie.spec
-    gather-requires
-    box-by-requires
-    scatter-requires
+    add-n
+    sub-sub-with
+    part-x-start
+    part-x-end
+    sub-sub-with-2
+    part-y-start
+    part-y-end
+    sub-with-requires
     same-length
-    same-length-2
-    same-length-3
     returns)

@@ -1,29 +1,104 @@
 -- `state::substitution::sub_rows` meets its contract. Assumes nothing.
+use mathlib.Core.Path.{_≡_}
+use Prim.Native.Nat.{_≤_, _-_}
+use native.Mathlib.Omega.{arith}
 use borrow.Author.Needs.{needs}
-use Rattle.cipher.proofs.FipsLaws.{by-rows-below}
+use denote.Ref.{now}
+use Rattle.shares.proofs.WriteLaws.{length-part-rest}
+use Rattle.cipher.proofs.CipherLaws.{subs-of-shared}
+use Rattle.state.specs.Boxes.{in-row}
+use Rattle.state.proofs.BufferLaws.{Buffered, buffered-start, buffered-room, buffered-more, buffered-taken, buffered-done}
+use Rattle.state.proofs.SubLaws.{four-rows}
 use Rattle.state.proofs.substitution.sub_rows.Statement.{statement}
 use Rattle.state.proofs.substitution.sub_rows.Tie as tie
 
-slice-aggregate-sub-listed : tie.Need-slice-aggregate-sub-listed
-slice-aggregate-sub-listed c = search needs
+abbrev Inv-loop : tie.InvT-loop
+Inv-loop logs antilogs which d tape s₀ at₀ r₀ s at r = (r ≤ 4) × Buffered (four-rows which d) 0 d 16 tape s₀ r at s
 
-sub-listed-requires : tie.Need-sub-listed-requires
-sub-listed-requires c κs =
-    let s = c .before .before .before .before .before .before .before .before .pre in
-    (s .0, by-rows-below, s .1, s .2, s .3, s .4, s .5)
+abbrev μ-loop : tie.MeasureT-loop
+μ-loop logs antilogs which d tape s₀ at₀ r₀ s at r = 4 - r
 
-same-length : tie.Need-same-length
+loop-holds : tie.Need-loop-holds Inv-loop μ-loop
+loop-holds c = (omega arith, buffered-start _ 0 _ _ _ _ (c .before .before .pre .1))
+
+sub-sub-four : tie.Need-sub-sub-four Inv-loop μ-loop
+unfolding four-rows
+sub-sub-four c = search needs
+
+part-sub-four-start : tie.Need-part-sub-four-start Inv-loop μ-loop
+unfolding four-rows
+part-sub-four-start c = search needs
+
+part-sub-four-end : tie.Need-part-sub-four-end Inv-loop μ-loop
+part-sub-four-end c = search needs
+
+sub-four-requires : tie.Need-sub-four-requires Inv-loop μ-loop
+unfolding four-rows
+sub-four-requires c κs =
+    let loop = c .before .before .before in
+    let start = loop .before .before .before in
+    let l = loop .loop in
+    let room = buffered-room (l .inv .1) (omega arith) in (
+      record {
+        order = start .pre .0;
+        places = omega arith;
+        small = omega arith;
+        long = l .inv .1 .long;
+        drawn = omega (arith, room, start .pre .2, length-part-rest (now (start .args .tape)) (l .at));
+      },
+      search needs,
+    )
+
+add-at : tie.Need-add-at Inv-loop μ-loop
+unfolding four-rows
+add-at c =
+    let call = c .before .before in
+    let loop = call .before .before .before .before in
+    let room = buffered-room (loop .loop .inv .1) (omega arith) in
+    omega (arith, call .sub-four .ensures .0, room, loop .before .before .before .pre .2)
+
+add-r : tie.Need-add-r Inv-loop μ-loop
+add-r c = search needs
+
+loop-less : tie.Need-loop-less Inv-loop μ-loop
+loop-less c = search needs
+
+loop-again : tie.Need-loop-again Inv-loop μ-loop
+unfolding four-rows
+loop-again c =
+    let call = c .before .before in
+    let loop = call .before .before .before .before in
+    let w = loop .before .before .before .args .which in
+    let l = loop .loop in
+    let p = call .sub-four in (
+      omega arith,
+      buffered-more (l .inv .1) (p .result) _ (omega arith) (λ ss ts. subs-of-shared w (in-row (l .r)) ts) (p .ensures .0) (p .ensures .1),
+    )
+
+same-length : tie.Need-same-length Inv-loop μ-loop
 same-length c = search needs
 
-same-length-2 : tie.Need-same-length-2
-same-length-2 c = search needs
-
-same-length-3 : tie.Need-same-length-3
-same-length-3 c = search needs
-
-returns : tie.Need-returns
-returns c = c .before .before .before .before .before .before .sub-listed .ensures
+returns : tie.Need-returns Inv-loop μ-loop
+unfolding four-rows
+returns c =
+    let l = c .before .loop in
+    let e : l .r ≡ 4 = omega arith in
+    (buffered-taken (l .inv .1) e, buffered-done (l .inv .1) e)
 
 pub sub-rows-spec : {M : Type 1} → statement M
 sub-rows-spec =
-    tie.close (tie.spec slice-aggregate-sub-listed sub-listed-requires same-length same-length-2 same-length-3 returns)
+    tie.close
+    (tie.spec
+    Inv-loop
+    μ-loop
+    loop-holds
+    sub-sub-four
+    part-sub-four-start
+    part-sub-four-end
+    sub-four-requires
+    add-at
+    add-r
+    loop-less
+    loop-again
+    same-length
+    returns)
