@@ -1,10 +1,13 @@
 /*
  * Dokkumel: AES on masked data.
  *
- * SHARES. A secret byte is never stored as it is. It is held as n = d + 1
- * shares, numbered 0 to d, whose XOR is the byte. d is the order: any d of
- * the bytes that a masked product computes say nothing about its factors.
- * Orders 1 to 8 are served.
+ * SHARES. A secret byte is held as n = d + 1 shares, numbered 0 to d, whose
+ * XOR is the byte. d is the order: any d of the bytes that a masked product
+ * computes say nothing about its factors. Orders 1 to 8 are served. That is
+ * said of one product. Several together are another matter: the refresh
+ * inside the S-box is the short one of the source, and it is known that with
+ * it the S-box does not hide at higher orders what each product hides
+ * (Coron, Prouff, Rivain and Roche, FSE 2013).
  *
  * LAYOUT. A string of L bytes in shares is one buffer of n * L bytes: all of
  * share 0, then all of share 1, and so on. A single byte in shares is the
@@ -53,9 +56,22 @@
  * may run at the same time, if no buffer that one of them writes is used by
  * another.
  *
- * Local copies of shares on the stack are not wiped.
+ * STACK. Nothing that a call leaves on the stack is wiped. After
+ * dokkumel_encrypt() and dokkumel_decrypt() all shares of all round keys stand
+ * there; after dokkumel_prepare() and dokkumel_encrypt_prepared() none of the
+ * round keys, but shares of the bytes and words that were worked on last. At
+ * most so many bytes are used, at any order:
  *
- * Link with libdokkumel_c.a; it needs memcpy() and memset() only.
+ *   DOKKUMEL_STACK_SHARES    split, join, refresh, unused tape, previews
+ *   DOKKUMEL_STACK_PRODUCT   the product
+ *   DOKKUMEL_STACK_SHEET     its sheet, and the reading of places
+ *   DOKKUMEL_STACK_SBOX      the S-box
+ *   DOKKUMEL_STACK_ENCRYPT   encryption and decryption by a single call
+ *   DOKKUMEL_STACK_PREPARE   preparation, and encryption from prepared keys
+ *
+ * LINKING. libdokkumel_c.a is for x86-64, and needs memcpy() and memset()
+ * only. An object that was built with the header of another version does not
+ * link with it.
  */
 
 #ifndef DOKKUMEL_H
@@ -66,6 +82,26 @@
 
 #ifdef __cplusplus
 extern "C" {
+#endif
+
+/*
+ * The version: ten times the number of the request that landed last, and one
+ * more for each landing since. Tape counts and answers may change with it,
+ * under the same names; so this header refers to a function whose name
+ * carries the version, and an archive of another version does not have it.
+ */
+#define DOKKUMEL_VERSION          52
+
+uint32_t dokkumel_version_52(void);
+
+#if defined(__GNUC__)
+#if defined(__has_attribute)
+#if __has_attribute(retain)
+__attribute__((retain))
+#endif
+#endif
+__attribute__((used))
+static uint32_t (*const dokkumel_linked_version)(void) = dokkumel_version_52;
 #endif
 
 #define DOKKUMEL_OK               0
@@ -127,6 +163,14 @@ extern "C" {
 	(16 * DOKKUMEL_ROUNDS(key_bytes))
 #define DOKKUMEL_SBOXES(key_bytes) \
 	(DOKKUMEL_KEY_SBOXES(key_bytes) + DOKKUMEL_ROUND_SBOXES(key_bytes))
+
+/* Stack that a call uses at most, in bytes. */
+#define DOKKUMEL_STACK_SHARES     256
+#define DOKKUMEL_STACK_PRODUCT    2560
+#define DOKKUMEL_STACK_SHEET      3072
+#define DOKKUMEL_STACK_SBOX       2816
+#define DOKKUMEL_STACK_ENCRYPT    5632
+#define DOKKUMEL_STACK_PREPARE    3072
 
 /*
  * Split a string into shares. Shares 1 to d are tape bytes, in turn; share 0

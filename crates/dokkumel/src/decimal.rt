@@ -52,7 +52,8 @@ fn followed(n: Number, c: u8) -> Number
 
 // The number that text is, exact below 1000000. An empty text is none.
 pub fn read(text: &[u8]) -> Number
-    ensures { λ r. ⌜ (r .good ≡ Decimal.decimal-from (ltb 0 (length (now (text .entry)))) (now (text .entry))) × (r .value ≡ Decimal.number-from 0 (now (text .entry))) ⌝ }
+    ensures { λ r. ⌜ (r .good ≡ Decimal.decimal-from (ltb 0 (length (now (text .entry)))) (now (text .entry)))
+        × (r .value ≡ Decimal.number-from 0 (now (text .entry))) ⌝ }
 {
     let mut n = Number {
         good: 0 < text.len(),

@@ -20,7 +20,9 @@ dokkumel preview ROUTE ORDER LENGTH...                      what that call would
 dokkumel help                                               this text
 ORDER, KEYBYTES, PLACE and LENGTH are decimal. The others are bytes in hexadecimal, share after share; '' is no byte.
 TAPE may be -, for raw bytes from standard input. A call prints its output and the tape bytes taken, or its refusal.
-ROUTE is encrypt, decrypt, prepare or encrypt-prepared. Its LENGTHs are KEYLEN or PREPAREDLEN, INPUTLEN (not for prepare), TAPELEN and OUTPUTLEN, in bytes.
+ROUTE is encrypt, decrypt, prepare or encrypt-prepared. Its LENGTHs are KEYLEN or PREPAREDLEN, INPUTLEN (not for prepare), TAPELEN and OUTPUTLEN,
+in bytes.
+Arguments can be seen by every user of the machine: no key that is in use belongs here.
 ",
     );
 }

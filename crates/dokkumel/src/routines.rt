@@ -49,7 +49,8 @@ fn call(
     tape: &[u8],
     output: &mut [u8],
 ) -> Answer
-    ensures { λ r. ⌜ outcome r (now (output .exit)) ≡ called c order (now (first .entry)) (now (second .entry)) (now (tape .entry)) (now (output .entry)) ⌝ }
+    ensures { λ r. ⌜ outcome r (now (output .exit))
+        ≡ called c order (now (first .entry)) (now (second .entry)) (now (tape .entry)) (now (output .entry)) ⌝ }
 {
     match c {
         Command::Encrypt => aes::encrypt(order, first, second, tape, output),

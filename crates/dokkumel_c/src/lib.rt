@@ -9,3 +9,4 @@ pub mod product;
 pub mod sharing;
 mod status;
 pub mod tape;
+pub mod version;

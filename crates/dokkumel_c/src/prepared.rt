@@ -28,7 +28,8 @@ pub extern "C" fn dokkumel_encrypt_prepared(
     taken: &mut usize,
 ) -> u32
     ensures { λ r. ⌜ gives r (now (taken .exit)) (now (output .exit))
-        ≡ returned (Encrypt-prepared-outcome order (now (prepared .entry)) (now (input .entry)) (now (tape .entry)) (now (output .entry))) (now (taken .entry)) ⌝ }
+        ≡ returned (Encrypt-prepared-outcome order (now (prepared .entry)) (now (input .entry)) (now (tape .entry))
+        (now (output .entry))) (now (taken .entry)) ⌝ }
 {
     let answer = aes::encrypt_prepared(order, prepared, input, tape, output);
     crate::status::returned(answer, taken)

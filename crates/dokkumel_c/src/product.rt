@@ -47,7 +47,8 @@ pub extern "C" fn dokkumel_read_places(
     taken: &mut usize,
 ) -> u32
     ensures { λ r. ⌜ gives r (now (taken .exit)) (now (output .exit))
-        ≡ returned (Reading-outcome order (now (left .entry)) (now (right .entry)) (now (tape .entry)) (now (list .entry)) (now (output .entry))) (now (taken .entry)) ⌝ }
+        ≡ returned (Reading-outcome order (now (left .entry)) (now (right .entry)) (now (tape .entry)) (now (list .entry))
+        (now (output .entry))) (now (taken .entry)) ⌝ }
 {
     let answer = sheets::read_places(order, left, right, tape, list, output);
     crate::status::returned(answer, taken)
