@@ -1,75 +1,104 @@
--- What the tests of a reading say, and what is known where they let it through. Assumes nothing.
-use mathlib.Core.Path.{_≡_, refl, sym, ap, _∙_}
-use mathlib.Core.Bool.{Bool, true, false}
+-- The outcome of a reading, from the answer of the sheet and of the reading's own tests. Assumes nothing.
+use mathlib.Core.Path.{_≡_, refl, sym, ap, ap₂, _∙_}
+use mathlib.Core.Bool.{Bool, true, false, cond}
 use mathlib.Core.List.{List}
-use Prim.Native.Nat.{ℕ, suc, _≤_}
-use borrow.Author.Tests.{eqb-true, eq-eqb, ne-eqb}
+use Prim.Native.Nat.{ℕ, suc}
+use borrow.Author.Tests.{eq-eqb, eqb-true}
+use native.Mathlib.Omega.{arith}
+use lib.Dec.{eqb}
 use lib.ListN.{length}
-use Rattle.isw.specs.Place.{place-count, product-need}
-use Rattle.shares.specs.declared.Refusal.the-variants.{Order}
+use Rattle.xor.proofs.Tests.{true-false}
+use Rattle.gf256.specs.Field.{times}
+use Rattle.isw.specs.Place.{place-count, product-need, sheet, listed}
+use Rattle.isw.proofs.SheetLaws.{length-sheet}
+use Rattle.shares.specs.declared.Refusal.{Refusal}
+use Rattle.shares.specs.declared.Refusal.the-variants.{Order, Input, Output, Tape}
 use Rattle.shares.specs.declared.Count.{Count}
 use Rattle.shares.specs.declared.Answer.{Answer}
-use Rattle.shares.specs.declared.Answer.the-variants.{Taken}
-use Rattle.shares.specs.Outcome.{Test, answered, served}
-use Rattle.shares.proofs.OutcomeLaws.{Passed, _and_, answered-here, answered-taken, served-bounds, reaches-le}
-use Rattle.masking.specs.Calls.{two-fit}
-use Rattle.masking.proofs.CallsLaws.{two-fit-lengths}
-use Rattle.sheets.specs.Calls.{all-below, Reading-tests}
+use Rattle.shares.specs.declared.Answer.the-variants.{Taken, Refused}
+use Rattle.shares.specs.Outcome.{done, outcome, Test, took, answered, settled, served, reaches}
+use Rattle.shares.proofs.OutcomeLaws.{Passed, _and_, answered-next, answered-taken, outcome-answer, settled-refused, settled-done, settled-taken}
+use Rattle.masking.specs.Calls.{two-fit, Factor-tests}
+use Rattle.sheets.specs.Calls.{all-below, Sheet-outcome, Listed-tests, Reading-tests, Reading-outcome}
 
--- ---- both factors have n shares, one test after the other
+-- both factors have n shares
+pub two-fit-both : (d a b : ℕ) → a ≡ suc d → b ≡ suc d → two-fit d a b ≡ true
+unfolding two-fit
+two-fit-both d a b e f = simp (eq-eqb a (suc d) e, eq-eqb b (suc d) f)
 
-module _ (d a b : ℕ) where
-  pub two-fit-both : a ≡ suc d → b ≡ suc d → two-fit d a b ≡ true
-  unfolding two-fit
-  two-fit-both e f = simp (eq-eqb a (suc d) e, eq-eqb b (suc d) f)
+never : (r : Refusal) (k : Count) → Taken k ≡ Refused r → ⊥
+never r k e = let z : _≡_ {A = ℕ} 0 1 = cc in omega arith
 
-  pub two-fit-left : (a ≡ suc d → ⊥) → two-fit d a b ≡ false
-  unfolding two-fit
-  two-fit-left h = simp (ne-eqb a (suc d) h)
+-- a refusal of the sheet, where its output has the room, is one of the reading
+handed : (u f g t : Bool) (next : Answer) (k : Count) (r : Refusal) → (u ≡ true → g ≡ true)
+    → Refused r ≡ cond u (cond f (cond g (cond t (Taken k) (Refused Tape)) (Refused Output)) (Refused Input)) (Refused Order)
+    → Refused r ≡ cond u (cond f (cond t next (Refused Tape)) (Refused Input)) (Refused Order)
+handed false f g t next k r h e = e
+handed true false g t next k r h e = e
+handed true true false t next k r h e = absurd (true-false (sym (h refl)))
+handed true true true false next k r h e = e
+handed true true true true next k r h e = absurd (never r k (sym e))
 
-  pub two-fit-right : a ≡ suc d → (b ≡ suc d → ⊥) → two-fit d a b ≡ false
-  unfolding two-fit
-  two-fit-right e h = simp (eq-eqb a (suc d) e, ne-eqb b (suc d) h)
+-- the sheet was asked for at s, and the answer is `made`, with q at the sheet
+module _ (d : ℕ) (a b ts ps o s q : List ℕ) (made : Answer) (told : outcome made q ≡ Sheet-outcome d a b ts s) where
+  -- the reading's tests
+  abbrev tests : List Test
+  tests = Reading-tests d (length a) (length b) (length ts) (length ps) (length o) (all-below (place-count d) ps)
 
--- ---- a reading
+  sheet-answered : made ≡ answered (Factor-tests (place-count d) d (length a) (length b) (length ts) (length s)) (took (product-need d))
+  unfolding Sheet-outcome settled
+  sheet-answered = outcome-answer made _ q s (sheet times d a b ts) told
 
--- how many places there are counts only where the order is served
-module _ (d : ℕ) (a b ts ps o : List ℕ) where
-  -- its tests, with so many places
-  abbrev tests : (size : ℕ) → List Test
-  tests n = Reading-tests d (length a) (length b) (length ts) (length ps) (length o) (all-below n ps)
+  pub reading-handed : (served d ≡ true → length s ≡ place-count d) → (r : Refusal) → made ≡ Refused r → outcome made o ≡ Reading-outcome d a b ts ps o
+  unfolding Reading-outcome answered
+  reading-handed room r e =
+      settled-refused tests (took (product-need d)) o _ made
+      (e
+      ∙ handed (served d) (two-fit d (length a) (length b)) (eqb (length s) (place-count d)) (reaches (length ts) (product-need d)) _ _ r
+      (λ u. eq-eqb (length s) (place-count d) (room u)) (sym e ∙ sheet-answered)) r e
 
-  pub reading-answered : (size : ℕ) (below : Bool) (k : Count) (q : Answer) → (served d ≡ true → size ≡ place-count d) → below ≡ all-below size ps
-      → q ≡ answered (Reading-tests d (length a) (length b) (length ts) (length ps) (length o) below) k → q ≡ answered (tests (place-count d)) k
-  reading-answered size below k q same e f = f ∙ rw e (go (served d) refl)
-    where
-      go : (u : Bool) → served d ≡ u → answered (tests size) k ≡ answered (tests (place-count d)) k
-      go true p = ap (λ (n : ℕ). answered (tests n) k) (same p)
-      go false p = sym (answered-here Order (served d) _ k p) ∙ answered-here Order (served d) _ k p
+  -- where it was made
+  module _ (k : Count) (taken : made ≡ Taken k) where
+    known : Passed (Factor-tests (place-count d) d (length a) (length b) (length ts) (length s)) × (k ≡ took (product-need d)) × (q ≡ sheet times d a b ts)
+    unfolding Sheet-outcome
+    known =
+        settled-taken (Factor-tests (place-count d) d (length a) (length b) (length ts) (length s)) (took (product-need d)) s (sheet times d a b ts) k q
+        (sym told ∙ ap (λ (x : Answer). outcome x q) taken)
 
--- a call that is let through
-pub record Reading-through (d a b t l o : ℕ) (below : Bool) : Type 0 where
-  pub order : d ≤ 8
-  pub left : a ≡ suc d
-  pub right : b ≡ suc d
-  pub drawn : product-need d ≤ t
-  pub output : o ≡ l
-  pub few : l ≤ d
-  pub places : below ≡ true
+    long : length q ≡ place-count d
+    long = ap length (known .2) ∙ length-sheet times d a b ts
 
-pub reading-passed : (d a b t l o : ℕ) (below : Bool) → Passed (Reading-tests d a b t l o below) → Reading-through d a b t l o below
-reading-passed d a b t l o below (u and i and n and r and f and q and p) =
-    let h = two-fit-lengths d a b i in
-    record {
-      order = served-bounds d u .1;
-      left = h .0;
-      right = h .1;
-      drawn = reaches-le t (product-need d) n;
-      output = eqb-true o l r;
-      few = reaches-le d l f;
-      places = q;
-    }
+    module _ (below : Bool) (so : below ≡ all-below (length q) ps) (answer : Answer) (asked : answer ≡ answered (Listed-tests d (length ps) (length o) below) k) where
+      -- the reading's own answer is that of all its tests
+      reading-answered : answer ≡ answered tests (took (product-need d))
+      reading-answered = go (known .0)
+        where
+          own : answer ≡ answered (Listed-tests d (length ps) (length o) (all-below (place-count d) ps)) (took (product-need d))
+          own =
+              asked
+              ∙ ap₂ (λ (y : Bool) (n : Count). answered (Listed-tests d (length ps) (length o) y) n)
+              (so ∙ ap (λ (n : ℕ). all-below n ps) long)
+              (known .1)
 
-pub reading-through : (d a b t l o : ℕ) (below : Bool) (q : Answer) (k c : Count) → q ≡ answered (Reading-tests d a b t l o below) k → q ≡ Taken c
-    → Reading-through d a b t l o below
-reading-through d a b t l o below q k c e f = reading-passed d a b t l o below (answered-taken _ k c (sym e ∙ f) .0)
+          go : Passed (Factor-tests (place-count d) d (length a) (length b) (length ts) (length s)) → answer ≡ answered tests (took (product-need d))
+          go (u and f and g and t and p) = answered-next _ _ _ _ u (answered-next _ _ _ _ f (answered-next _ _ _ _ t own))
+
+      pub reading-refused : (r : Refusal) → answer ≡ Refused r → outcome answer o ≡ Reading-outcome d a b ts ps o
+      unfolding Reading-outcome
+      reading-refused = settled-refused tests (took (product-need d)) o _ answer reading-answered
+
+      module _ (c : Count) (through : answer ≡ Taken c) where
+        -- what the picking of the bytes may rely on
+        pub reading-fits : (length o ≡ length ps) × (all-below (length q) ps ≡ true)
+        reading-fits = go (answered-taken _ k c (sym asked ∙ through) .0)
+          where
+            go : Passed (Listed-tests d (length ps) (length o) below) → (length o ≡ length ps) × (all-below (length q) ps ≡ true)
+            go (r and f and y and p) = (eqb-true (length o) (length ps) r, sym so ∙ y)
+
+        pub reading-done : (x : List ℕ) → x ≡ listed q ps → outcome answer x ≡ Reading-outcome d a b ts ps o
+        unfolding Reading-outcome
+        reading-done x e =
+            ap (λ (y : Answer). outcome y x) through
+            ∙ settled-done tests (took (product-need d)) o _ answer reading-answered c c x through
+            (answered-taken _ k c (sym asked ∙ through) .1 ∙ known .1)
+            (e ∙ ap (λ (y : List ℕ). listed y ps) (known .2))

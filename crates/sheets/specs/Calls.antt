@@ -24,11 +24,14 @@ unfoldable pub all-below : (m : ℕ) (list : List ℕ) → Bool
 all-below m [] = true
 all-below m (p ∷ ps) = ltb p m && all-below m ps
 
--- its tests, on the lengths of its buffers, and on whether every listed place is one
+-- its own tests, behind the sheet's: on the lengths of list and output, and on whether every listed place is one
+abbrev pub Listed-tests : (order list output : ℕ) (below : Bool) → List Test
+Listed-tests d l o below = test Output (eqb o l) ∷ test Listed (not (ltb d l)) ∷ test Place below ∷ []
+
+-- all of them, in their order; the sheet's own 4 cannot come up, since its buffer has P(d) bytes
 abbrev pub Reading-tests : (order left right tape list output : ℕ) (below : Bool) → List Test
 Reading-tests d a b t l o below =
-    test Order (served d) ∷ test Input (two-fit d a b) ∷ test Tape (reaches t (product-need d))
-    ∷ test Output (eqb o l) ∷ test Listed (not (ltb d l)) ∷ test Place below ∷ []
+    test Order (served d) ∷ test Input (two-fit d a b) ∷ test Tape (reaches t (product-need d)) ∷ Listed-tests d l o below
 
 unfoldable pub Reading-outcome : (order : ℕ) (left right tape list output : List ℕ) → Outcome
 Reading-outcome d a b ts ps o =

@@ -2,12 +2,10 @@
 ghost use mathlib.Core.Path.{_≡_};
 ghost use mathlib.Core.Bool.{true};
 ghost use lib.ListN.{length};
-ghost use Rattle.gf256.specs.Field as Field;
 ghost use Rattle.isw.specs.Place as Place;
-ghost use Rattle.shares.specs.Outcome.{outcome, answered, took};
-ghost use Rattle.sheets.specs.Fits.{Factors-fit};
+ghost use Rattle.shares.specs.Outcome.{outcome, answered, served};
 ghost use Rattle.sheets.specs.Calls as Calls;
-ghost use Rattle.sheets.specs.Calls.{Reading-tests, Reading-outcome};
+ghost use Rattle.sheets.specs.Calls.{Listed-tests, Reading-outcome};
 use shares::Answer;
 use shares::Count;
 use shares::Refusal;
@@ -26,31 +24,10 @@ fn all_below(size: usize, list: &[u16]) -> bool
     ok
 }
 
-// The tests of a call, on the lengths of its buffers and on whether each place of the list is one.
-fn reading_answer(
-    order: usize,
-    left: usize,
-    right: usize,
-    tape: usize,
-    list: usize,
-    output: usize,
-    below: bool,
-) -> Answer
-    ensures { λ r. ⌜ r ≡ answered (Reading-tests order left right tape list output below) (took (Place.product-need order)) ⌝ }
+// The tests that a reading has behind the sheet's, on numbers alone: 4, 6 and 7.
+fn listed_answer(count: Count, order: usize, list: usize, output: usize, below: bool) -> Answer
+    ensures { λ r. ⌜ r ≡ answered (Listed-tests order list output below) count ⌝ }
 {
-    if !shares::answers::served(order) {
-        return Answer::Refused(Refusal::Order);
-    }
-    if left != order + 1 {
-        return Answer::Refused(Refusal::Input);
-    }
-    if right != order + 1 {
-        return Answer::Refused(Refusal::Input);
-    }
-    let need = masking::product::product_need(order);
-    if tape < need {
-        return Answer::Refused(Refusal::Tape);
-    }
     if output != list {
         return Answer::Refused(Refusal::Output);
     }
@@ -60,7 +37,7 @@ fn reading_answer(
     if !below {
         return Answer::Refused(Refusal::Place);
     }
-    Answer::Taken(Count { taken: need })
+    Answer::Taken(count)
 }
 
 // The bytes of the sheet at the places of the list.
@@ -74,43 +51,33 @@ fn pick_listed(sheet: &[u8], list: &[u16], output: &mut [u8])
     }
 }
 
-// The listed bytes, with room for the sheet. Answers with how many bytes were drawn.
+// The reading, with room for the sheet, whose refusals 1, 3 and 5 are handed up. All entries are tested before the first byte is written.
 fn read_with(
-    d: usize,
-    a: &[u8],
-    b: &[u8],
+    order: usize,
+    left: &[u8],
+    right: &[u8],
     tape: &[u8],
     list: &[u16],
     sheet: &mut [u8],
     output: &mut [u8],
-) -> usize
-    requires { ⌜ Factors-fit d (now a) (now b) (now tape) × (length (now sheet) ≡ Place.place-count d)
-        × (length (now output) ≡ length (now list)) × (Calls.all-below (Place.place-count d) (now list) ≡ true) ⌝ }
-    ensures { λ k. ⌜ (k ≡ Place.product-need d)
-        × (now (output .exit)
-        ≡ Place.listed (Place.sheet Field.times d (now (a .entry)) (now (b .entry)) (now (tape .entry))) (now (list .entry))) ⌝ }
+) -> Answer
+    requires { ⌜ (served order ≡ true → length (now sheet) ≡ Place.place-count order) ⌝ }
+    ensures { λ r. ⌜ outcome r (now (output .exit))
+        ≡ Reading-outcome order (now (left .entry)) (now (right .entry)) (now (tape .entry)) (now (list .entry)) (now (output .entry)) ⌝ }
 {
-    let logs = gf256::logs();
-    let antilogs = gf256::antilogs();
-    let drawn = crate::sheet::sheet_core(&logs, &antilogs, d, a, b, tape, sheet);
+    let made = crate::sheet::product_sheet(order, left, right, tape, sheet);
+    let Answer::Taken(count) = made else {
+        return made;
+    };
+    let below = all_below(sheet.len(), list);
+    let answer = listed_answer(count, order, list.len(), output.len(), below);
+    let Answer::Taken(_) = answer else {
+        return answer;
+    };
     pick_listed(sheet, list, output);
-    drawn
+    answer
 }
 
-// The listed bytes. Answers with how many bytes were drawn.
-fn read_core(d: usize, a: &[u8], b: &[u8], tape: &[u8], list: &[u16], output: &mut [u8]) -> usize
-    requires { ⌜ Factors-fit d (now a) (now b) (now tape)
-        × (length (now output) ≡ length (now list)) × (Calls.all-below (Place.place-count d) (now list) ≡ true) ⌝ }
-    ensures { λ k. ⌜ (k ≡ Place.product-need d)
-        × (now (output .exit)
-        ≡ Place.listed (Place.sheet Field.times d (now (a .entry)) (now (b .entry)) (now (tape .entry))) (now (list .entry))) ⌝ }
-{
-    let mut sheet = [0u8; 279];
-    let size = crate::sheet::place_count(d);
-    read_with(d, a, b, tape, list, &mut sheet[0..size], output)
-}
-
-// All entries of the list are tested before the first byte is written.
 pub fn read_places(
     order: usize,
     left: &[u8],
@@ -122,20 +89,7 @@ pub fn read_places(
     ensures { λ r. ⌜ outcome r (now (output .exit))
         ≡ Reading-outcome order (now (left .entry)) (now (right .entry)) (now (tape .entry)) (now (list .entry)) (now (output .entry)) ⌝ }
 {
-    let below = all_below(crate::sheet::sheet_size(order), list);
-    let answer = reading_answer(
-        order,
-        left.len(),
-        right.len(),
-        tape.len(),
-        list.len(),
-        output.len(),
-        below,
-    );
-    let Answer::Taken(_) = answer else {
-        return answer;
-    };
-    Answer::Taken(Count {
-        taken: read_core(order, left, right, tape, list, output),
-    })
+    let mut sheet = [0u8; 279];
+    let size = crate::sheet::sheet_size(order);
+    read_with(order, left, right, tape, list, &mut sheet[0..size], output)
 }
