@@ -1,6 +1,6 @@
 // Encryption and decryption of one block over shares by a single call. Document 01, and document 02, wish 2, decide.
 ghost use mathlib.Core.Path.{_≡_};
-ghost use Prim.Native.Nat.{suc, _+_, _*_, _≤_};
+ghost use Prim.Native.Nat.{suc, _*_};
 ghost use lib.ListN.{length};
 ghost use Rattle.gf256.specs.Tables.{Tables};
 ghost use Rattle.shares.specs.Outcome.{outcome};
@@ -8,6 +8,7 @@ ghost use Rattle.cipher.specs.Fips197.{rounds};
 ghost use Rattle.cipher.specs.Cipher as Cipher;
 ghost use Rattle.aes.specs.Calls.{Encrypt-outcome, Decrypt-outcome};
 ghost use Rattle.aes.specs.Directions.{laid-of, Single-outcome};
+ghost use Rattle.aes.specs.Fits.{Block-fits};
 use gf256::Antilogs;
 use gf256::Direction;
 use gf256::Logs;
@@ -28,9 +29,8 @@ fn block_with(
     keys: &mut [u8],
     output: &mut [u8],
 ) -> usize
-    requires { ⌜ (d ≤ 8) × (1 ≤ nk) × (nk ≤ 8) × (length (now key) ≡ suc d * (4 * nk)) × (length (now input) ≡ suc d * 16)
-        × (length (now keys) ≡ suc d * (16 * suc (rounds nk))) × (length (now output) ≡ suc d * 16)
-        × (Cipher.cipher-need nk d ≤ length (now tape)) × Tables (now logs) (now antilogs) ⌝ }
+    requires { ⌜ Block-fits nk d (now key) (now input) (now tape) (now output) × (length (now keys) ≡ suc d * (16 * suc (rounds nk)))
+        × Tables (now logs) (now antilogs) ⌝ }
     ensures { λ r. ⌜ (r ≡ Cipher.cipher-need nk d)
         × (now (output .exit) ≡ laid-of which nk d (now (key .entry)) (now (input .entry)) (now (tape .entry))) ⌝ }
 {
@@ -61,8 +61,7 @@ fn block_core(
     tape: &[u8],
     output: &mut [u8],
 ) -> usize
-    requires { ⌜ (d ≤ 8) × (1 ≤ nk) × (nk ≤ 8) × (length (now key) ≡ suc d * (4 * nk)) × (length (now input) ≡ suc d * 16)
-        × (length (now output) ≡ suc d * 16) × (Cipher.cipher-need nk d ≤ length (now tape)) × Tables (now logs) (now antilogs) ⌝ }
+    requires { ⌜ Block-fits nk d (now key) (now input) (now tape) (now output) × Tables (now logs) (now antilogs) ⌝ }
     ensures { λ r. ⌜ (r ≡ Cipher.cipher-need nk d)
         × (now (output .exit) ≡ laid-of which nk d (now (key .entry)) (now (input .entry)) (now (tape .entry))) ⌝ }
 {

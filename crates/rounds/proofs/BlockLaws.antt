@@ -47,9 +47,11 @@ round-made w d m nr i r keys tape s s′ er e =
 -- ---- the whole
 
 -- the keys' length, as the code counts it
-pub keys-long : (nk : ℕ) → 16 * (nk + 6 + 1) ≡ 16 * suc (rounds nk)
+pub keys-long : (nk d n : ℕ) → n ≡ suc d * (16 * suc (rounds nk)) → n ≡ suc d * (16 * (nk + 6 + 1))
 unfolding rounds
-keys-long nk = omega arith
+keys-long nk d n e =
+    let w : 16 * suc (rounds nk) ≡ 16 * (nk + 6 + 1) = omega arith in
+    e ∙ ap (λ (l : ℕ). suc d * l) w
 
 pub rounds-need-of : (nk d : ℕ) → (nk + 6) * round-need d ≡ encrypted-with-need nk d
 unfolding rounds

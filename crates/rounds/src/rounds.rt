@@ -1,13 +1,12 @@
 // The rounds of an encryption or decryption from round keys in shares. The keys have m bytes in each share.
 ghost use mathlib.Core.Path.{_≡_};
-ghost use Prim.Native.Nat.{suc, _+_, _*_, _≤_};
-ghost use lib.ListN.{length};
+ghost use Prim.Native.Nat.{suc, _+_, _*_};
 ghost use Rattle.gf256.specs.Tables.{Tables};
 ghost use Rattle.shares.specs.Strings.{parts, laid};
 ghost use Rattle.cipher.specs.Fips197.{rounds};
 ghost use Rattle.cipher.specs.Cipher.{round-need, encrypted-with-need};
 ghost use Rattle.cipher.specs.Rounds.{rounds-of};
-ghost use Rattle.rounds.specs.Fits.{Rounds-fit};
+ghost use Rattle.rounds.specs.Fits.{Rounds-fit, Keyed-fits};
 ghost use Rattle.rounds.specs.Directions.{with-of};
 use gf256::Antilogs;
 use gf256::Direction;
@@ -62,8 +61,7 @@ pub fn rounds_core(
     tape: &[u8],
     output: &mut [u8],
 ) -> usize
-    requires { ⌜ (d ≤ 8) × (nk ≤ 8) × (length (now keys) ≡ suc d * (16 * suc (rounds nk))) × (length (now input) ≡ suc d * 16)
-        × (length (now output) ≡ suc d * 16) × (encrypted-with-need nk d ≤ length (now tape)) × Tables (now logs) (now antilogs) ⌝ }
+    requires { ⌜ Keyed-fits nk d (now keys) (now input) (now tape) (now output) × Tables (now logs) (now antilogs) ⌝ }
     ensures { λ q. ⌜ (q ≡ encrypted-with-need nk d)
         × (now (output .exit)
         ≡ laid (with-of which nk d (parts (suc d) (16 * suc (rounds nk)) (now (keys .entry)))

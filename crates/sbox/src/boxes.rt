@@ -2,13 +2,14 @@
 ghost use mathlib.Core.Path.{_≡_};
 ghost use mathlib.Core.Bool.{true};
 ghost use mathlib.Core.List.{map};
-ghost use Prim.Native.Nat.{suc, _%_, _≤_, _<_};
+ghost use Prim.Native.Nat.{_%_, _≤_, _<_};
 ghost use lib.ListN.{length};
 ghost use Rattle.gf256.specs.Directions.{affine-of, constant-of};
 ghost use Rattle.gf256.specs.Tables.{Tables};
 ghost use Rattle.shares.specs.Outcome as Outcome;
 ghost use Rattle.shares.specs.Outcome.{outcome};
 ghost use Rattle.sbox.specs.Box;
+ghost use Rattle.sbox.specs.Fits.{Box-fits};
 ghost use Rattle.sbox.specs.Calls.{Box-outcome};
 use gf256::Antilogs;
 use gf256::Direction;
@@ -65,8 +66,7 @@ fn box_core(
     tape: &[u8],
     output: &mut [u8],
 ) -> usize
-    requires { ⌜ (d ≤ 8) × (length (now x) ≡ suc d) × (length (now output) ≡ suc d) × (Box.box-need d ≤ length (now tape))
-        × Tables (now logs) (now antilogs) ⌝ }
+    requires { ⌜ Box-fits d (now x) (now tape) (now output) × Tables (now logs) (now antilogs) ⌝ }
     ensures { λ r. ⌜ (r ≡ Box.box-need d) × (now (output .exit) ≡ Box.box d (now (x .entry)) (now (tape .entry))) ⌝ }
 {
     let drawn = crate::powers::power_core(logs, antilogs, d, x, tape, output);
@@ -83,8 +83,7 @@ fn inverse_box_core(
     tape: &[u8],
     output: &mut [u8],
 ) -> usize
-    requires { ⌜ (d ≤ 8) × (length (now x) ≡ suc d) × (length (now output) ≡ suc d) × (Box.box-need d ≤ length (now tape))
-        × Tables (now logs) (now antilogs) ⌝ }
+    requires { ⌜ Box-fits d (now x) (now tape) (now output) × Tables (now logs) (now antilogs) ⌝ }
     ensures { λ r. ⌜ (r ≡ Box.box-need d) × (now (output .exit) ≡ Box.inverse-box d (now (x .entry)) (now (tape .entry))) ⌝ }
 {
     affine_shares(Direction::Inverse, d, x);
@@ -92,7 +91,7 @@ fn inverse_box_core(
 }
 
 // The S-box of the direction; the shares in x may be used up. Answers with how many bytes were drawn.
-pub fn box_by(
+pub fn box_of(
     logs: &Logs,
     antilogs: &Antilogs,
     which: Direction,
@@ -101,8 +100,7 @@ pub fn box_by(
     tape: &[u8],
     output: &mut [u8],
 ) -> usize
-    requires { ⌜ (d ≤ 8) × (length (now x) ≡ suc d) × (length (now output) ≡ suc d) × (Box.box-need d ≤ length (now tape))
-        × Tables (now logs) (now antilogs) ⌝ }
+    requires { ⌜ Box-fits d (now x) (now tape) (now output) × Tables (now logs) (now antilogs) ⌝ }
     ensures { λ r. ⌜ (r ≡ Box.box-need d) × (now (output .exit) ≡ Box.box-of which d (now (x .entry)) (now (tape .entry))) ⌝ }
 {
     match which {

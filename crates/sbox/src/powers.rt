@@ -2,13 +2,14 @@
 // Each step gets the part of the tape from its first draw on, and the count rises by what it drew.
 ghost use mathlib.Core.Path.{_≡_};
 ghost use mathlib.Core.List.{map};
-ghost use Prim.Native.Nat.{suc, _+_, _≤_};
+ghost use Prim.Native.Nat.{_+_};
 ghost use lib.ListN.{length};
 ghost use Rattle.gf256.specs.Exponents.{raised-to};
 ghost use Rattle.gf256.specs.Tables.{Tables};
 ghost use Rattle.isw.specs.Place as Place;
 ghost use Rattle.shares.specs.Refresh as Refresh;
 ghost use Rattle.sbox.specs.Box;
+ghost use Rattle.sbox.specs.Fits.{Refreshed-fits, Stage-fits, Last-fits, Power-fits, Box-fits};
 use gf256::Antilogs;
 use gf256::Exponent;
 use gf256::Logs;
@@ -25,8 +26,7 @@ fn raise(logs: &Logs, antilogs: &Antilogs, which: Exponent, x: &[u8], z: &mut [u
 
 // z = x², refreshed. Answers with how many bytes were drawn.
 fn make_z(logs: &Logs, antilogs: &Antilogs, d: usize, x: &[u8], tape: &[u8], z: &mut [u8]) -> usize
-    requires { ⌜ (d ≤ 8) × (length (now x) ≡ suc d) × (length (now z) ≡ suc d) × (Refresh.refresh-need d ≤ length (now tape))
-        × Tables (now logs) (now antilogs) ⌝ }
+    requires { ⌜ Refreshed-fits d (now x) (now tape) (now z) × Tables (now logs) (now antilogs) ⌝ }
     ensures { λ r. ⌜ (r ≡ Refresh.refresh-need d) × (now (z .exit) ≡ Box.stage-z d (now (x .entry)) (now (tape .entry))) ⌝ }
 {
     raise(logs, antilogs, Exponent::Two, x, z);
@@ -35,8 +35,7 @@ fn make_z(logs: &Logs, antilogs: &Antilogs, d: usize, x: &[u8], tape: &[u8], z: 
 
 // w = y⁴, refreshed. Answers with how many bytes were drawn.
 fn make_w(logs: &Logs, antilogs: &Antilogs, d: usize, y: &[u8], tape: &[u8], w: &mut [u8]) -> usize
-    requires { ⌜ (d ≤ 8) × (length (now y) ≡ suc d) × (length (now w) ≡ suc d) × (Refresh.refresh-need d ≤ length (now tape))
-        × Tables (now logs) (now antilogs) ⌝ }
+    requires { ⌜ Refreshed-fits d (now y) (now tape) (now w) × Tables (now logs) (now antilogs) ⌝ }
     ensures { λ r. ⌜ (r ≡ Refresh.refresh-need d) × (now (w .exit) ≡ Box.stage-w d (now (y .entry)) (now (tape .entry))) ⌝ }
 {
     raise(logs, antilogs, Exponent::Four, y, w);
@@ -53,8 +52,7 @@ fn first_stage(
     z: &mut [u8],
     y: &mut [u8],
 ) -> usize
-    requires { ⌜ (d ≤ 8) × (length (now x) ≡ suc d) × (length (now z) ≡ suc d) × (length (now y) ≡ suc d) × (Box.stage-need d ≤ length (now tape))
-        × Tables (now logs) (now antilogs) ⌝ }
+    requires { ⌜ Stage-fits d (now x) (now tape) (now z) (now y) × Tables (now logs) (now antilogs) ⌝ }
     ensures { λ r. ⌜ (r ≡ Box.stage-need d) × (now (z .exit) ≡ Box.stage-z d (now (x .entry)) (now (tape .entry)))
         × (now (y .exit) ≡ Box.stage-y d (now (x .entry)) (now (tape .entry))) ⌝ }
 {
@@ -72,8 +70,7 @@ fn second_stage(
     w: &mut [u8],
     v: &mut [u8],
 ) -> usize
-    requires { ⌜ (d ≤ 8) × (length (now y) ≡ suc d) × (length (now w) ≡ suc d) × (length (now v) ≡ suc d) × (Box.stage-need d ≤ length (now tape))
-        × Tables (now logs) (now antilogs) ⌝ }
+    requires { ⌜ Stage-fits d (now y) (now tape) (now w) (now v) × Tables (now logs) (now antilogs) ⌝ }
     ensures { λ r. ⌜ (r ≡ Box.stage-need d) × (now (w .exit) ≡ Box.stage-w d (now (y .entry)) (now (tape .entry)))
         × (now (v .exit) ≡ Box.stage-v d (now (y .entry)) (now (tape .entry))) ⌝ }
 {
@@ -93,8 +90,7 @@ fn last_stage(
     y: &mut [u8],
     output: &mut [u8],
 ) -> usize
-    requires { ⌜ (d ≤ 8) × (length (now v) ≡ suc d) × (length (now w) ≡ suc d) × (length (now z) ≡ suc d) × (length (now y) ≡ suc d)
-        × (length (now output) ≡ suc d) × (Place.product-need d + Place.product-need d ≤ length (now tape)) × Tables (now logs) (now antilogs) ⌝ }
+    requires { ⌜ Last-fits d (now v) (now w) (now z) (now tape) (now y) (now output) × Tables (now logs) (now antilogs) ⌝ }
     ensures { λ r. ⌜ (r ≡ Place.product-need d + Place.product-need d)
         × (now (output .exit) ≡ Box.stage-last d (now (v .entry)) (now (w .entry)) (now (z .entry)) (now (tape .entry))) ⌝ }
 {
@@ -116,8 +112,7 @@ fn power_with(
     v: &mut [u8],
     output: &mut [u8],
 ) -> usize
-    requires { ⌜ (d ≤ 8) × (length (now x) ≡ suc d) × (length (now z) ≡ suc d) × (length (now w) ≡ suc d) × (length (now y) ≡ suc d)
-        × (length (now v) ≡ suc d) × (length (now output) ≡ suc d) × (Box.box-need d ≤ length (now tape)) × Tables (now logs) (now antilogs) ⌝ }
+    requires { ⌜ Power-fits d (now x) (now tape) (now z) (now w) (now y) (now v) (now output) × Tables (now logs) (now antilogs) ⌝ }
     ensures { λ r. ⌜ (r ≡ Box.box-need d) × (now (output .exit) ≡ Box.power-254 d (now (x .entry)) (now (tape .entry))) ⌝ }
 {
     let first = first_stage(logs, antilogs, d, x, tape, z, y);
@@ -134,8 +129,7 @@ pub fn power_core(
     tape: &[u8],
     output: &mut [u8],
 ) -> usize
-    requires { ⌜ (d ≤ 8) × (length (now x) ≡ suc d) × (length (now output) ≡ suc d) × (Box.box-need d ≤ length (now tape))
-        × Tables (now logs) (now antilogs) ⌝ }
+    requires { ⌜ Box-fits d (now x) (now tape) (now output) × Tables (now logs) (now antilogs) ⌝ }
     ensures { λ r. ⌜ (r ≡ Box.box-need d) × (now (output .exit) ≡ Box.power-254 d (now (x .entry)) (now (tape .entry))) ⌝ }
 {
     let mut z = [0u8; 9];

@@ -1,4 +1,4 @@
--- The key laid into the front of each share of the buffer, and the whole: the buffer of all words is the round keys. Assumes nothing.
+-- The key copied to the front of each share of the buffer, and the whole: the buffer of all words is the round keys. Assumes nothing.
 use mathlib.Core.Path.{_≡_, refl, sym, ap, ap₂, _∙_}
 use mathlib.Core.List.{List, [], _∷_, map}
 use Prim.Native.Nat.{ℕ, zero, suc, _+_, _*_, _-_, _≤_, _<_}
@@ -18,7 +18,7 @@ use Rattle.state.proofs.SecondLaws.{share-long}
 use Rattle.schedule.specs.Stored.{written}
 use Rattle.schedule.proofs.WrittenLaws.{each-by-shared}
 
--- ---- the key laid into the buffer
+-- ---- the key copied into the buffer
 
 -- share i of the key over the front of share i of the buffer
 abbrev pub with-share : (l : ℕ) (key : List ℕ) → ℕ → List ℕ → List ℕ
@@ -42,9 +42,9 @@ module _ (l m n : ℕ) (key : List ℕ) (fits : l ≤ m) (key-long : length key 
       ap₂ _∷_ (with-share-front j (omega arith) (take m keys))
       (fronts c (suc j) (drop m keys) (omega arith) ∙ ap (parts c l) (sym (drop-drop l (j * l) key ∙ ap (λ (x : ℕ). drop x key) e)))
 
-pub key-laid : (d l m : ℕ) (key keys₀ keys : List ℕ) → l ≤ m → length key ≡ suc d * l → length keys₀ ≡ suc d * m
+pub key-copied : (d l m : ℕ) (key keys₀ keys : List ℕ) → l ≤ m → length key ≡ suc d * l → length keys₀ ≡ suc d * m
     → keys ≡ laid (each-by (with-share l key) 0 (parts (suc d) m keys₀)) → map (take l) (parts (suc d) m keys) ≡ parts (suc d) l key
-key-laid d l m key keys₀ keys fits key-long keys-long e =
+key-copied d l m key keys₀ keys fits key-long keys-long e =
     let shape = each-by-shared (with-share l key) m (suc d) (with-share-length l m (suc d) key fits key-long) d 0 keys₀ (omega arith) (omega arith) in
     ap (map (take l)) (ap (parts (suc d) m) e ∙ parts-laid shape)
     ∙ fronts l m (suc d) key fits key-long (suc d) 0 keys₀ (omega arith) ∙ ap (λ (x : ℕ). parts (suc d) l (drop x key)) (zero-mul l)
@@ -59,9 +59,12 @@ total-is : (nk : ℕ) → 4 * (nk + 7) ≡ total-words nk
 unfolding total-words rounds
 total-is nk = omega arith
 
-pub bytes-is : (nk : ℕ) → 4 * (4 * (nk + 7)) ≡ 16 * suc (rounds nk)
+bytes-is : (nk : ℕ) → 4 * (4 * (nk + 7)) ≡ 16 * suc (rounds nk)
 unfolding rounds
 bytes-is nk = omega arith
+
+pub long-is : (nk d n : ℕ) → n ≡ suc d * (16 * suc (rounds nk)) → n ≡ suc d * (4 * (4 * (nk + 7)))
+long-is nk d n e = e ∙ ap (λ (l : ℕ). suc d * l) (sym (bytes-is nk))
 
 pub need-is : (nk d : ℕ) → schedule-from-need (4 * (nk + 7) - nk) nk nk d ≡ schedule-need nk d
 unfolding schedule-need

@@ -6,9 +6,9 @@ use Prim.Native.Nat.{ℕ, suc, _+_, _*_, _-_, _/_, _≤_}
 use lib.ListN.{length, take, drop}
 use Rattle.xor.specs.Sums.{xors}
 use Rattle.shares.specs.Strings.{Shares, parts, laid}
-use Rattle.cipher.specs.Fips197.{word, kind}
+use Rattle.cipher.specs.Fips197.{word, kind, rounds}
 use Rattle.cipher.specs.States.{each-by}
-use Rattle.cipher.specs.Cipher.{subs-need, in-word, words, masked-temp, temp-need, schedule-from-need}
+use Rattle.cipher.specs.Cipher.{subs-need, in-word, words, masked-temp, temp-need, schedule-from-need, schedule-need}
 
 -- word i written into share j, from the shares t of the temporary word
 abbrev pub stored : (nk i : ℕ) (t : List ℕ) → ℕ → List ℕ → List ℕ
@@ -67,3 +67,12 @@ pub record Expand-fits (nk d total : ℕ) (keys tape : List ℕ) : Type 0 where
   pub small : total ≤ 60
   pub keyed : length keys ≡ suc d * (4 * total)
   pub drawn : schedule-from-need (total - nk) nk nk d ≤ length tape
+
+-- for the whole, from a key
+pub record Expansion-fits (nk d : ℕ) (key keys tape : List ℕ) : Type 0 where
+  pub order : d ≤ 8
+  pub some : 1 ≤ nk
+  pub small : nk ≤ 8
+  pub long : length key ≡ suc d * (4 * nk)
+  pub keyed : length keys ≡ suc d * (16 * suc (rounds nk))
+  pub drawn : schedule-need nk d ≤ length tape

@@ -5,9 +5,8 @@ ghost use Prim.Native.Nat.{suc, _*_, _-_, _≤_};
 ghost use lib.ListN.{length, take};
 ghost use Rattle.gf256.specs.Tables.{Tables};
 ghost use Rattle.shares.specs.Strings.{parts, laid};
-ghost use Rattle.cipher.specs.Fips197.{rounds};
 ghost use Rattle.cipher.specs.Cipher.{schedule-from, schedule-from-need, schedule, schedule-need};
-ghost use Rattle.schedule.specs.Stored.{written, Expand-fits};
+ghost use Rattle.schedule.specs.Stored.{written, Expand-fits, Expansion-fits};
 use gf256::Antilogs;
 use gf256::Logs;
 
@@ -35,7 +34,7 @@ fn expand(
 }
 
 // Each share of the key, of l bytes, to the front of each share of the buffer, of m bytes.
-fn lay_key(d: usize, l: usize, m: usize, key: &[u8], keys: &mut [u8])
+fn copy_key(d: usize, l: usize, m: usize, key: &[u8], keys: &mut [u8])
     requires { ⌜ (d ≤ 8) × (l ≤ m) × (length (now key) ≡ suc d * l) × (length (now keys) ≡ suc d * m) ⌝ }
     ensures { λ _. ⌜ map (take l) (parts (suc d) m (now (keys .exit))) ≡ parts (suc d) l (now (key .entry)) ⌝ }
 {
@@ -58,13 +57,11 @@ pub fn expand_core(
     tape: &[u8],
     keys: &mut [u8],
 ) -> usize
-    requires { ⌜ (d ≤ 8) × (1 ≤ nk) × (nk ≤ 8) × (length (now key) ≡ suc d * (4 * nk))
-        × (length (now keys) ≡ suc d * (16 * suc (rounds nk))) × (schedule-need nk d ≤ length (now tape))
-        × Tables (now logs) (now antilogs) ⌝ }
+    requires { ⌜ Expansion-fits nk d (now key) (now keys) (now tape) × Tables (now logs) (now antilogs) ⌝ }
     ensures { λ q. ⌜ (q ≡ schedule-need nk d)
         × (now (keys .exit) ≡ laid (schedule nk d (parts (suc d) (4 * nk) (now (key .entry))) (now (tape .entry)))) ⌝ }
 {
     let total = 4 * (nk + 7);
-    lay_key(d, 4 * nk, 4 * total, key, keys);
+    copy_key(d, 4 * nk, 4 * total, key, keys);
     expand(logs, antilogs, nk, d, total, tape, keys)
 }

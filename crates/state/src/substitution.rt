@@ -31,7 +31,7 @@ fn sub_with(
         × (now (s .exit) ≡ laid (sub-at which d k (parts (suc d) l (now (s .entry))) (now (tape .entry)))) ⌝ }
 {
     crate::bytes::gather(d, l, k, s, x);
-    let drawn = sbox::boxes::box_by(logs, antilogs, which, d, x, tape, y);
+    let drawn = sbox::boxes::box_of(logs, antilogs, which, d, x, tape, y);
     crate::bytes::scatter(d, l, k, y, s);
     drawn
 }

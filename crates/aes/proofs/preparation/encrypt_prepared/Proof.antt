@@ -1,5 +1,5 @@
 -- `aes::preparation::encrypt_prepared` meets its contract. Assumes nothing.
-use mathlib.Core.Path.{_≡_, ap, _∙_}
+use mathlib.Core.Path.{ap, _∙_}
 use Prim.Native.Nat.{ℕ}
 use borrow.Author.Needs.{needs}
 use denote.Ref.{now}
@@ -33,7 +33,9 @@ prepared-words-requires : tie.Need-prepared-words-requires
 prepared-words-requires c κs =
     let q = c .before .before in
     let a = q .before .before .before .before .before .args in
-    block-through (prepared-words (a .order) (length (now (a .prepared)))) (encrypted-with-need (prepared-words (a .order) (length (now (a .prepared)))) (a .order)) (a .order) (length (now (a .input))) (length (now (a .tape))) (length (now (a .output))) _ _ _ (q .prepared-answer .ensures) (c .enum-told .given .1) .order
+    let nk = prepared-words (a .order) (length (now (a .prepared))) in
+    block-through nk (encrypted-with-need nk (a .order)) (a .order) (length (now (a .input))) (length (now (a .tape))) (length (now (a .output))) _ _ _
+    (q .prepared-answer .ensures) (c .enum-told .given .1) .order
 
 logs-requires : tie.Need-logs-requires
 logs-requires c κs = search needs
@@ -49,9 +51,21 @@ rounds-core-requires c κs =
     let told = words .before in
     let q = told .before .before in
     let a = q .before .before .before .before .before .args in
-    let t = block-through (prepared-words (a .order) (length (now (a .prepared)))) (encrypted-with-need (prepared-words (a .order) (length (now (a .prepared)))) (a .order)) (a .order) (length (now (a .input))) (length (now (a .tape))) (length (now (a .output))) _ _ _ (q .prepared-answer .ensures) (told .enum-told .given .1) in
-    let w = words .prepared-words .ensures in
-    (t .order, w .1, rw (w .0) (keys-long _ (a .order) _ (prepared-long (a .order) (length (now (a .prepared))) (t .some))), t .input, t .output, rw (w .0) (t .drawn), lent (logs .logs .ensures) (antilogs .antilogs .ensures))
+    let nk = prepared-words (a .order) (length (now (a .prepared))) in
+    let t = block-through nk (encrypted-with-need nk (a .order)) (a .order) (length (now (a .input))) (length (now (a .tape))) (length (now (a .output))) _ _ _
+    (q .prepared-answer .ensures) (told .enum-told .given .1)
+    in
+    let w = words .prepared-words .ensures in (
+      record {
+        order = t .order;
+        small = w .1;
+        keyed = rw (w .0) (keys-long _ (a .order) _ (prepared-long (a .order) (length (now (a .prepared))) (t .some)));
+        input = t .input;
+        output = t .output;
+        drawn = rw (w .0) (t .drawn);
+      },
+      lent (logs .logs .ensures) (antilogs .antilogs .ensures),
+    )
 
 same-length : tie.Need-same-length
 same-length c = search needs

@@ -1,5 +1,5 @@
 -- `aes::preparation::prepare` meets its contract. Assumes nothing.
-use mathlib.Core.Path.{_≡_, ap, _∙_}
+use mathlib.Core.Path.{ap, _∙_}
 use Prim.Native.Nat.{ℕ}
 use borrow.Author.Needs.{needs}
 use denote.Ref.{now}
@@ -32,7 +32,8 @@ key-words-requires : tie.Need-key-words-requires
 key-words-requires c κs =
     let q = c .before .before in
     let a = q .before .before .before .before .args in
-    preparation-through (a .order) (length (now (a .key))) (length (now (a .tape))) (length (now (a .output))) _ _ _ (q .preparation-answer .ensures) (c .enum-told .given .1) .order
+    preparation-through (a .order) (length (now (a .key))) (length (now (a .tape))) (length (now (a .output))) _ _ _
+    (q .preparation-answer .ensures) (c .enum-told .given .1) .order
 
 logs-requires : tie.Need-logs-requires
 logs-requires c κs = search needs
@@ -48,9 +49,20 @@ expand-core-requires c κs =
     let told = words .before in
     let q = told .before .before in
     let a = q .before .before .before .before .args in
-    let t = preparation-through (a .order) (length (now (a .key))) (length (now (a .tape))) (length (now (a .output))) _ _ _ (q .preparation-answer .ensures) (told .enum-told .given .1) in
-    let w = words .key-words .ensures in
-    (t .order, rw (w .0) (t .some), w .1, rw (w .0) (key-length (a .order) (length (now (a .key))) (t .some)), rw (w .0) (keys-long _ (a .order) _ (t .output)), rw (w .0) (t .drawn), lent (logs .logs .ensures) (antilogs .antilogs .ensures))
+    let t = preparation-through (a .order) (length (now (a .key))) (length (now (a .tape))) (length (now (a .output))) _ _ _
+    (q .preparation-answer .ensures) (told .enum-told .given .1)
+    in
+    let w = words .key-words .ensures in (
+      record {
+        order = t .order;
+        some = rw (w .0) (t .some);
+        small = w .1;
+        long = rw (w .0) (key-length (a .order) (length (now (a .key))) (t .some));
+        keyed = rw (w .0) (keys-long _ (a .order) _ (t .output));
+        drawn = rw (w .0) (t .drawn);
+      },
+      lent (logs .logs .ensures) (antilogs .antilogs .ensures),
+    )
 
 same-length : tie.Need-same-length
 same-length c = search needs

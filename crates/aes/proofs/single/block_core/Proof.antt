@@ -20,11 +20,11 @@ part-keys-end c = search needs
 
 block-with-requires : tie.Need-block-with-requires
 block-with-requires c κs =
-    let a = c .before .before .before .before .before .before .before .args in
-    let p = c .before .before .before .before .before .before .before .pre in
-    let size = c .before .before .prepared-length in
+    let first = c .before .before in
+    let a = first .before .before .before .before .before .args in
+    let size = first .prepared-length in
     let room = length-part-first _ (size .result) (size .ensures .1) in
-    (p .0, p .1, p .2, p .3, p .4, room ∙ keys-long (a .nk) (a .d) _ (size .ensures .0), p .5, p .6, p .7)
+    (search needs, room ∙ keys-long (a .nk) (a .d) _ (size .ensures .0), search needs)
 
 same-length : tie.Need-same-length
 same-length c = search needs

@@ -1,5 +1,5 @@
 -- `aes::single::call` meets its contract. Assumes nothing.
-use mathlib.Core.Path.{_≡_, ap, _∙_}
+use mathlib.Core.Path.{ap, _∙_}
 use Prim.Native.Nat.{ℕ}
 use borrow.Author.Needs.{needs}
 use denote.Ref.{now}
@@ -36,7 +36,9 @@ key-words-requires : tie.Need-key-words-requires
 key-words-requires c κs =
     let q = c .before .before in
     let a = q .before .before .before .before .before .args in
-    block-through (key-words (a .order) (length (now (a .key)))) (cipher-need (key-words (a .order) (length (now (a .key)))) (a .order)) (a .order) (length (now (a .input))) (length (now (a .tape))) (length (now (a .output))) _ _ _ (q .single-answer .ensures) (c .enum-told .given .1) .order
+    let nk = key-words (a .order) (length (now (a .key))) in
+    block-through nk (cipher-need nk (a .order)) (a .order) (length (now (a .input))) (length (now (a .tape))) (length (now (a .output))) _ _ _
+    (q .single-answer .ensures) (c .enum-told .given .1) .order
 
 logs-requires : tie.Need-logs-requires
 logs-requires c κs = search needs
@@ -52,9 +54,22 @@ block-core-requires c κs =
     let told = words .before in
     let q = told .before .before in
     let a = q .before .before .before .before .before .args in
-    let t = block-through (key-words (a .order) (length (now (a .key)))) (cipher-need (key-words (a .order) (length (now (a .key)))) (a .order)) (a .order) (length (now (a .input))) (length (now (a .tape))) (length (now (a .output))) _ _ _ (q .single-answer .ensures) (told .enum-told .given .1) in
-    let w = words .key-words .ensures in
-    (t .order, rw (w .0) (t .some), w .1, rw (w .0) (key-length (a .order) (length (now (a .key))) (t .some)), t .input, t .output, rw (w .0) (t .drawn), lent (logs .logs .ensures) (antilogs .antilogs .ensures))
+    let nk = key-words (a .order) (length (now (a .key))) in
+    let t = block-through nk (cipher-need nk (a .order)) (a .order) (length (now (a .input))) (length (now (a .tape))) (length (now (a .output))) _ _ _
+    (q .single-answer .ensures) (told .enum-told .given .1)
+    in
+    let w = words .key-words .ensures in (
+      record {
+        order = t .order;
+        some = rw (w .0) (t .some);
+        small = w .1;
+        long = rw (w .0) (key-length (a .order) (length (now (a .key))) (t .some));
+        input = t .input;
+        output = t .output;
+        drawn = rw (w .0) (t .drawn);
+      },
+      lent (logs .logs .ensures) (antilogs .antilogs .ensures),
+    )
 
 same-length : tie.Need-same-length
 same-length c = search needs

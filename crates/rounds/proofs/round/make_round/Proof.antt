@@ -1,5 +1,4 @@
 -- `rounds::round::make_round` meets its contract. Assumes nothing.
--- `rounds::round::make_round` meets its contract. Assumes nothing.
 use mathlib.Core.Bool.{Bool}
 use mathlib.Core.Path.{sym, ap, _∙_}
 use Prim.Native.Nat.{suc}

@@ -1,5 +1,4 @@
 -- `rounds::round::mix_and_add` meets its contract. Assumes nothing.
--- `rounds::round::mix_and_add` meets its contract. Assumes nothing.
 use mathlib.Core.List.{map}
 use mathlib.Core.Path.{sym, ap, _∙_}
 use Prim.Native.Nat.{suc}

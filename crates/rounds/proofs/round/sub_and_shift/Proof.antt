@@ -1,5 +1,4 @@
 -- `rounds::round::sub_and_shift` meets its contract. Assumes nothing.
--- `rounds::round::sub_and_shift` meets its contract. Assumes nothing.
 use mathlib.Core.List.{map}
 use mathlib.Core.Path.{sym, ap, _∙_}
 use Prim.Native.Nat.{suc}

@@ -1,6 +1,5 @@
 -- `rounds::rounds::rounds_core` meets its contract. Assumes nothing.
-use mathlib.Core.Path.{sym, ap, _∙_}
-use Prim.Native.Nat.{ℕ, suc, _*_}
+use mathlib.Core.Path.{sym, _∙_}
 use native.Mathlib.Omega.{arith}
 use borrow.Author.Needs.{needs}
 use denote.Ref.{now}
@@ -29,22 +28,22 @@ add-key-requires c κs =
     let number = c .before .before .before .before .before in
     let start = number .before .before .before .before .before in
     let a = start .args in
-    let fit = start .pre in
-    let keyed = fit .2 ∙ ap (λ (n : ℕ). suc (a .d) * n) (sym (keys-long (a .nk))) in
-    (fit .0, omega (arith, number .key-number .ensures .1), keyed, omega arith)
+    let fit = start .pre .0 in
+    (fit .order, omega (arith, number .key-number .ensures .1), keys-long (a .nk) (a .d) _ (fit .keyed), omega arith)
 
 run-rounds-requires : tie.Need-run-rounds-requires
 run-rounds-requires c κs =
-    let start = c .before .before .before .before .before .before .before .before .before .before .before .before .before .before in
+    let added = c .before .before .before in
+    let start = added .before .before .before .before .before .before .before .before .before .before .before in
     let a = start .args in
-    let fit = start .pre in (
+    let fit = start .pre .0 in (
       record {
-        order = fit .0;
+        order = fit .order;
         small = omega arith;
         round = omega arith;
-        keyed = fit .2 ∙ ap (λ (n : ℕ). suc (a .d) * n) (sym (keys-long (a .nk)));
-        drawn = omega (arith, fit .5, rounds-need-of (a .nk) (a .d));
-        long = omega (arith, fit .4);
+        keyed = keys-long (a .nk) (a .d) _ (fit .keyed);
+        drawn = omega (arith, fit .drawn, rounds-need-of (a .nk) (a .d));
+        long = omega (arith, fit .output);
       },
       search needs,
     )
@@ -60,11 +59,11 @@ returns c =
     let number = first .before .before in
     let start = number .before .before .before .before .before in
     let a = start .args in
-    let fit = start .pre in
+    let fit = start .pre .0 in
     let k = number .key-number in
     let run = third .run-rounds .ensures in
-    let copied = first .put .ensures ∙ front-all (now (a .input)) (now (a .output)) (fit .3 ∙ sym (fit .4)) in
-    let made = with-made (a .which) (a .nk) (a .d) (k .result) (now (a .keys)) (now (a .input)) (now (a .tape)) _ _ _ (fit .2) (fit .3) in
+    let copied = first .put .ensures ∙ front-all (now (a .input)) (now (a .output)) (fit .input ∙ sym (fit .output)) in
+    let made = with-made (a .which) (a .nk) (a .d) (k .result) (now (a .keys)) (now (a .input)) (now (a .tape)) _ _ _ (fit .keyed) (fit .input) in
     (run .0 ∙ rounds-need-of (a .nk) (a .d), made (k .ensures .0) (k .ensures .1) copied (second .add-key .ensures) (run .1))
 
 pub rounds-core-spec : {M : Type 1} → statement M

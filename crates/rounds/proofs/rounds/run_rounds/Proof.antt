@@ -1,5 +1,4 @@
 -- `rounds::rounds::run_rounds` meets its contract. Assumes nothing.
--- `rounds::rounds::run_rounds` meets its contract. Assumes nothing.
 use mathlib.Core.Path.{_≡_, refl, ap, _∙_}
 use Prim.Native.Nat.{suc, _≤_, _<_, _+_, _-_}
 use native.Mathlib.Omega.{arith}

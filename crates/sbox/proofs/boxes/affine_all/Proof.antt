@@ -23,16 +23,24 @@ array-read-i : tie.Need-array-read-i Inv-loop μ-loop
 array-read-i c = search needs
 
 cast-i : tie.Need-cast-i Inv-loop μ-loop
-cast-i c = omega (arith, c, c .before .loop .inv .5 (c .before .loop .k) (omega (arith, c)))
+cast-i c =
+    let l = c .before .loop in
+    omega (arith, c, l .inv .5 (l .k) (omega (arith, c)))
 
 slice-read-affine : tie.Need-slice-read-affine Inv-loop μ-loop
-slice-read-affine c = omega (arith, c .before, c .before .before .loop .inv .5 (c .before .before .loop .k) (omega (arith, c .before)))
+slice-read-affine c =
+    let step = c .before in
+    let l = step .before .loop in
+    omega (arith, step, l .inv .5 (l .k) (omega (arith, step)))
 
 affine-requires : tie.Need-affine-requires Inv-loop μ-loop
 affine-requires c κs = search needs
 
 slice-write-x : tie.Need-slice-write-x Inv-loop μ-loop
-slice-write-x c = omega (arith, c .before .before, c .before .before .before .loop .inv .5 (c .before .before .before .loop .k) (omega (arith, c .before .before)))
+slice-write-x c =
+    let step = c .before .before in
+    let l = step .before .loop in
+    omega (arith, step, l .inv .5 (l .k) (omega (arith, step)))
 
 add-k : tie.Need-add-k Inv-loop μ-loop
 add-k c = search needs
@@ -42,9 +50,16 @@ loop-less c = search needs
 
 loop-again : tie.Need-loop-again Inv-loop μ-loop
 loop-again c =
-    let l = c .before .before .before .loop in
-    let n = l .inv .5 (l .k) (omega (arith, c .before .before)) in
-    (omega arith, search needs, each-named _ _ _ _ _ _ n (l .inv .2) (c .affine .ensures) (omega (arith, c .before .before)), simp length-set (omega arith), search needs, l .inv .5)
+    let step = c .before .before in
+    let l = step .before .loop in
+    let n = l .inv .5 (l .k) (omega (arith, step)) in (
+      omega arith,
+      search needs,
+      each-named _ _ _ _ _ _ n (l .inv .2) (c .affine .ensures) (omega (arith, step)),
+      simp length-set (omega arith),
+      search needs,
+      l .inv .5,
+    )
 
 same-length : tie.Need-same-length Inv-loop μ-loop
 same-length c = search needs

@@ -1,7 +1,5 @@
 -- `sbox::boxes::affine_shares` meets its contract. Assumes nothing.
 use mathlib.Core.Path.{ap, _∙_}
-use Prim.Native.Nat.{_%_}
-use Rattle.gf256.specs.Directions.{constant-of}
 use Rattle.sbox.specs.Box.{corrected, affine-shares}
 use borrow.Author.Needs.{needs}
 use Rattle.sbox.proofs.boxes.affine_shares.Statement.{statement}
@@ -18,7 +16,10 @@ same-length c = search needs
 
 returns : tie.Need-returns
 unfolding affine-shares
-returns c = let a = c .before .before .before .before .before .before .before .before .before .args in c .before .before .correct .ensures ∙ ap (corrected (constant-of (a .which)) (a .d % 2)) (c .before .before .before .before .before .before .affine-all .ensures)
+returns c =
+    let second = c .before .before in
+    let first = second .before .before .before .before in
+    second .correct .ensures ∙ ap (corrected _ _) (first .affine-all .ensures)
 
 pub affine-shares-spec : {M : Type 1} → statement M
 affine-shares-spec = tie.close (tie.spec affine-all-requires correct-requires same-length returns)

@@ -17,7 +17,11 @@ same-length c = search needs
 
 returns : tie.Need-returns
 unfolding box
-returns c = let p = c .before .before .before .before .before .before .power-core .ensures in (p .0, c .before .before .affine-shares .ensures ∙ ap (affine-shares Forward (c .before .before .before .before .before .before .before .before .before .before .before .args .d)) (p .1))
+returns c =
+    let second = c .before .before in
+    let first = second .before .before .before .before in
+    let p = first .power-core .ensures in
+    (p .0, second .affine-shares .ensures ∙ ap (affine-shares Forward _) (p .1))
 
 pub box-core-spec : {M : Type 1} → statement M
 box-core-spec = tie.close (tie.spec power-core-requires affine-shares-requires same-length returns)

@@ -12,10 +12,7 @@ affine-shares-requires : tie.Need-affine-shares-requires
 affine-shares-requires c κs = search needs
 
 power-core-requires : tie.Need-power-core-requires
-power-core-requires c κs =
-    let affine = c .before .before .before .before in
-    let p = affine .before .before .before .before .before .pre in
-    (p .0, affine .affine-shares .kept .1 .1 .0 ∙ p .1, p .2, p .3, p .4)
+power-core-requires c κs = (search needs, search needs)
 
 same-length : tie.Need-same-length
 same-length c = search needs
@@ -25,7 +22,12 @@ same-length-2 c = search needs
 
 returns : tie.Need-returns
 unfolding inverse-box
-returns c = let a = c .before .before .before .before .before .before .before .before .before .before .before .before .args in let p = c .before .before .power-core .ensures in (p .0, p .1 ∙ ap (λ (x : List ℕ). power-254 (a .d) x (now (a .tape))) (c .before .before .before .before .before .before .before .affine-shares .ensures))
+returns c =
+    let second = c .before .before in
+    let first = second .before .before .before .before .before in
+    let a = first .before .before .before .before .before .args in
+    let p = second .power-core .ensures in
+    (p .0, p .1 ∙ ap (λ (x : List ℕ). power-254 (a .d) x (now (a .tape))) (first .affine-shares .ensures))
 
 pub inverse-box-core-spec : {M : Type 1} → statement M
 inverse-box-core-spec =

@@ -1,5 +1,5 @@
 -- `sbox::boxes::masked_box` meets its contract. Assumes nothing.
-use mathlib.Core.Path.{ap, _∙_}
+use mathlib.Core.Path.{ap}
 use borrow.Author.Needs.{needs}
 use denote.Ref.{now}
 use lib.ListN.{length}
@@ -50,7 +50,7 @@ box-core-requires c κs =
     (q .before .call-need .ensures) (q .byte-answer .ensures)
     in
     let h = byte-through _ (v .order) _ _ _ _ _ e (told .enum-told .given .1) in
-    (h .order, h .input, h .output, h .drawn, lent (logs .logs .ensures) (antilogs .antilogs .ensures))
+    (record { order = h .order; input = h .input; output = h .output; drawn = h .drawn }, lent (logs .logs .ensures) (antilogs .antilogs .ensures))
 
 same-length : tie.Need-same-length
 same-length c = search needs

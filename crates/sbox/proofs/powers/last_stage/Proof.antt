@@ -11,7 +11,7 @@ raise-requires : tie.Need-raise-requires
 raise-requires c κs = search needs
 
 product-core-requires : tie.Need-product-core-requires
-product-core-requires c κs = (omega arith, omega arith, omega arith, omega arith, omega arith, c .before .before .before .before .before .before .before .before .before .before .before .before .before .pre .7)
+product-core-requires c κs = (search needs, search needs, search needs, search needs, search needs, search needs)
 
 sub-product-core : tie.Need-sub-product-core
 sub-product-core c = search needs
@@ -23,10 +23,12 @@ part-product-core-end : tie.Need-part-product-core-end
 part-product-core-end c = search needs
 
 product-core-requires-2 : tie.Need-product-core-requires-2
-product-core-requires-2 c κs = (omega arith, omega arith, omega arith, omega arith, omega arith, c .before .before .before .before .before .before .before .before .before .before .before .before .before .before .before .before .before .before .before .pre .7)
+product-core-requires-2 c κs = (search needs, search needs, search needs, search needs, search needs, search needs)
 
 add-result : tie.Need-add-result
-add-result c = omega (arith, c .before .before .before .before .before .before .before .before .product-core .ensures .0, c .before .before .product-core2 .ensures .0, c .before .before .before .before .before .before .before .before .before .before .before .before .before .before .before .before .before .before .before .before .before .before)
+add-result c =
+    let first = c .before .before .before .before .before .before .before .before in
+    omega (arith, c, first)
 
 same-length : tie.Need-same-length
 same-length c = search needs
@@ -39,9 +41,12 @@ same-length-3 c = search needs
 
 returns : tie.Need-returns
 returns c =
-    let p = c .before .before .before .before .before .before .before .before .product-core .ensures in
-    let q = c .before .before .product-core2 .ensures in
-    (ap₂ _+_ (p .0) (q .0), last-after _ _ _ _ _ _ _ _ _ (c .before .before .before .before .before .before .before .before .before .before .before .before .before .raise .ensures) (p .1) (p .0) (q .1))
+    let second = c .before .before in
+    let first = second .before .before .before .before .before .before in
+    let raised = first .before .before .before .before .before in
+    let p = first .product-core .ensures in
+    let q = second .product-core2 .ensures in
+    (ap₂ _+_ (p .0) (q .0), last-after _ _ _ _ _ _ _ _ _ (raised .raise .ensures) (p .1) (p .0) (q .1))
 
 pub last-stage-spec : {M : Type 1} → statement M
 last-stage-spec =

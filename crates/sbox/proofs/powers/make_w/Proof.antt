@@ -19,8 +19,11 @@ same-length c = search needs
 returns : tie.Need-returns
 unfolding stage-w
 returns c =
-    let r = c .before .before .refresh-core .ensures in
-    (r .0, refreshed-after _ fourth (now (c .before .before .before .before .before .before .before .before .before .before .before .args .y)) _ _ _ (c .before .before .before .before .before .before .raise .ensures) (r .1))
+    let second = c .before .before in
+    let first = second .before .before .before .before in
+    let start = first .before .before .before .before .before in
+    let r = second .refresh-core .ensures in
+    (r .0, refreshed-after _ fourth (now (start .args .y)) _ _ _ (first .raise .ensures) (r .1))
 
 pub make-w-spec : {M : Type 1} → statement M
 make-w-spec =

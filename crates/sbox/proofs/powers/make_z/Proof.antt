@@ -19,8 +19,11 @@ same-length c = search needs
 returns : tie.Need-returns
 unfolding stage-z
 returns c =
-    let r = c .before .before .refresh-core .ensures in
-    (r .0, refreshed-after _ squared (now (c .before .before .before .before .before .before .before .before .before .before .before .args .x)) _ _ _ (c .before .before .before .before .before .before .raise .ensures) (r .1))
+    let second = c .before .before in
+    let first = second .before .before .before .before in
+    let start = first .before .before .before .before .before in
+    let r = second .refresh-core .ensures in
+    (r .0, refreshed-after _ squared (now (start .args .x)) _ _ _ (first .raise .ensures) (r .1))
 
 pub make-z-spec : {M : Type 1} → statement M
 make-z-spec =

@@ -1,5 +1,4 @@
 -- `sbox::powers::power_core` meets its contract. Assumes nothing.
-use native.Mathlib.Omega.{arith}
 use borrow.Author.Needs.{needs}
 use Rattle.sbox.proofs.powers.power_core.Statement.{statement}
 use Rattle.sbox.proofs.powers.power_core.Tie as tie
@@ -44,7 +43,7 @@ part-v-end : tie.Need-part-v-end
 part-v-end c = search needs
 
 power-with-requires : tie.Need-power-with-requires
-power-with-requires c κs = (omega arith, omega arith, omega arith, omega arith, omega arith, omega arith, omega arith, omega arith, c .before .before .before .before .before .before .before .before .pre .4)
+power-with-requires c κs = (search needs, search needs)
 
 same-length : tie.Need-same-length
 same-length c = search needs

@@ -1,17 +1,14 @@
 -- `sbox::powers::power_with` meets its contract. Assumes nothing.
-use mathlib.Core.Path.{_≡_}
-use Prim.Native.Nat.{_+_}
 use native.Mathlib.Omega.{arith}
 use borrow.Author.Needs.{needs}
-use Rattle.isw.specs.Place.{product-need}
-use Rattle.sbox.specs.Box.{stage-need, box-need}
+use Rattle.sbox.specs.Box.{box-need}
 use Rattle.sbox.proofs.StageLaws.{power-after}
 use Rattle.sbox.proofs.powers.power_with.Statement.{statement}
 use Rattle.sbox.proofs.powers.power_with.Tie as tie
 
 first-stage-requires : tie.Need-first-stage-requires
 unfolding box-need
-first-stage-requires c κs = search needs
+first-stage-requires c κs = (search needs, search needs)
 
 sub-second-stage : tie.Need-sub-second-stage
 unfolding box-need
@@ -26,7 +23,7 @@ part-second-stage-end c = search needs
 
 second-stage-requires : tie.Need-second-stage-requires
 unfolding box-need
-second-stage-requires c κs = (omega arith, omega arith, omega arith, omega arith, omega arith, c .before .before .before .before .before .before .before .before .before .before .before .before .before .before .before .before .before .before .pre .8)
+second-stage-requires c κs = (search needs, search needs)
 
 add-second : tie.Need-add-second
 unfolding box-need
@@ -45,11 +42,26 @@ part-last-stage-end c = search needs
 
 last-stage-requires : tie.Need-last-stage-requires
 unfolding box-need
-last-stage-requires c κs = (omega arith, omega arith, omega arith, omega arith, omega arith, omega arith, omega arith, c .before .before .before .before .before .before .before .before .before .before .before .before .before .before .before .before .before .before .before .before .before .before .before .before .before .before .before .before .before .pre .8)
+last-stage-requires c κs =
+    let second = c .before .before .before .before .before .before .before .before .before .before in
+    let first = second .before .before .before .before .before .before .before .before .before in (
+      record {
+        order = omega (arith, first);
+        long-v = omega (arith, first);
+        long-w = omega (arith, first);
+        long-z = omega (arith, first);
+        long-y = omega (arith, first);
+        output = omega (arith, first);
+        drawn = omega (arith, first);
+      },
+      search needs,
+    )
 
 add-result : tie.Need-add-result
 unfolding box-need
-add-result c = omega (arith, c .before .before .before .before .before .before .last-stage .ensures .0, c .before .before .before .before .before .before .before .before .before .before .before .before .before .before .before .before .before .second-stage .ensures .0, c .before .before .before .before .before .before .before .before .before .before .before .before .before .before .before .before .before .before .before .before .before .before .before .before .before .before .first-stage .ensures .0, c .before .before .before .before .before .before .before .before .before .before .before .before .before .before .before .before .before .before .before .before .before .before .before .before .before .before .before .before .before .before .before .before .before .before .before .before)
+add-result c =
+    let second = c .before .before .before .before .before .before .before .before .before .before .before .before .before .before .before .before .before in
+    omega (arith, c, second)
 
 same-length : tie.Need-same-length
 same-length c = search needs
@@ -69,14 +81,13 @@ same-length-5 c = search needs
 returns : tie.Need-returns
 unfolding box-need
 returns c =
-    let d = c .before .before .before .before .before .before .before .before .before .before .before .before .before .before .before .before .before .before .before .before .before .before .before .before .before .before .before .before .before .before .before .before .before .before .before .before .args .d in
-    let f = c .before .before .before .before .before .before .before .before .before .before .before .before .before .before .before .before .before .before .before .before .before .before .before .before .before .before .first-stage in
-    let g = c .before .before .before .before .before .before .before .before .before .before .before .before .before .before .before .before .before .second-stage in
-    let h = c .before .before .before .before .before .before .last-stage in
-    let ef : f .result ≡ stage-need d = f .ensures .0 in
-    let eg : g .result ≡ stage-need d = g .ensures .0 in
-    let eh : h .result ≡ product-need d + product-need d = h .ensures .0 in
-    (omega (arith, ef, eg, eh), power-after d _ _ _ _ _ _ _ _ _ ef (f .ensures .1) (f .ensures .2) eg (g .ensures .1) (g .ensures .2) (h .ensures .1))
+    let third = c .before .before .before .before .before .before in
+    let second = third .before .before .before .before .before .before .before .before .before .before .before in
+    let first = second .before .before .before .before .before .before .before .before .before in
+    let f = first .first-stage .ensures in
+    let g = second .second-stage .ensures in
+    let h = third .last-stage .ensures in
+    (omega (arith, f .0, g .0, h .0), power-after _ _ _ _ _ _ _ _ _ _ (f .0) (f .1) (f .2) (g .0) (g .1) (g .2) (h .1))
 
 pub power-with-spec : {M : Type 1} → statement M
 power-with-spec =

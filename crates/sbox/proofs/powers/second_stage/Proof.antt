@@ -1,7 +1,6 @@
 -- `sbox::powers::second_stage` meets its contract. Assumes nothing.
 use mathlib.Core.Path.{refl, ap₂}
 use Prim.Native.Nat.{_+_}
-use native.Mathlib.Omega.{arith}
 use borrow.Author.Needs.{needs}
 use Rattle.sbox.specs.Box.{stage-v, stage-need}
 use Rattle.sbox.proofs.StageLaws.{product-after}
@@ -25,7 +24,7 @@ part-product-core-end c = search needs
 
 product-core-requires : tie.Need-product-core-requires
 unfolding stage-need
-product-core-requires c κs = (omega arith, omega arith, omega arith, omega arith, omega arith, c .before .before .before .before .before .before .before .before .before .before .before .pre .5)
+product-core-requires c κs = (search needs, search needs, search needs, search needs, search needs, search needs)
 
 add-result : tie.Need-add-result
 unfolding stage-need
@@ -40,8 +39,10 @@ same-length-2 c = search needs
 returns : tie.Need-returns
 unfolding stage-need stage-v
 returns c =
-    let m = c .before .before .before .before .before .before .before .before .make-w .ensures in
-    let p = c .before .before .product-core .ensures in
+    let second = c .before .before in
+    let first = second .before .before .before .before .before .before in
+    let m = first .make-w .ensures in
+    let p = second .product-core .ensures in
     (ap₂ _+_ (m .0) (p .0), m .1, product-after _ _ _ _ _ _ _ _ _ (m .0) refl (m .1) (p .1))
 
 pub second-stage-spec : {M : Type 1} → statement M

@@ -1,10 +1,10 @@
 -- `schedule::expansion::expand_core` meets its contract. Assumes nothing.
-use mathlib.Core.Path.{refl, sym, ap, _∙_}
-use Prim.Native.Nat.{ℕ, suc, _+_, _*_}
+use mathlib.Core.Path.{refl, _∙_}
+use Prim.Native.Nat.{_+_, _*_}
 use native.Mathlib.Omega.{arith}
 use borrow.Author.Needs.{needs}
 use denote.Ref.{now}
-use Rattle.schedule.proofs.KeyLaws.{bytes-is, need-is, expanded-is}
+use Rattle.schedule.proofs.KeyLaws.{long-is, need-is, expanded-is}
 use Rattle.schedule.proofs.expansion.expand_core.Statement.{statement}
 use Rattle.schedule.proofs.expansion.expand_core.Tie as tie
 
@@ -14,33 +14,32 @@ add-total c = search needs
 mul-total : tie.Need-mul-total
 mul-total c = search needs
 
-mul-lay-key : tie.Need-mul-lay-key
-mul-lay-key c = search needs
+mul-copy-key : tie.Need-mul-copy-key
+mul-copy-key c = search needs
 
-mul-lay-key-2 : tie.Need-mul-lay-key-2
-mul-lay-key-2 c = search needs
+mul-copy-key-2 : tie.Need-mul-copy-key-2
+mul-copy-key-2 c = search needs
 
-lay-key-requires : tie.Need-lay-key-requires
-lay-key-requires c κs =
+copy-key-requires : tie.Need-copy-key-requires
+copy-key-requires c κs =
     let start = c .before .before .before .before in
     let v = start .args in
-    let fit = start .pre in
-    (fit .0, omega arith, fit .3, fit .4 ∙ ap (λ (n : ℕ). suc (v .d) * n) (sym (bytes-is (v .nk))))
+    let fit = start .pre .0 in
+    (fit .order, omega arith, fit .long, long-is (v .nk) (v .d) _ (fit .keyed))
 
 expand-requires : tie.Need-expand-requires
 expand-requires c κs =
     let key = c .before .before .before in
     let start = key .before .before .before .before .before in
     let v = start .args in
-    let fit = start .pre in
-    let long = fit .4 ∙ ap (λ (n : ℕ). suc (v .d) * n) (sym (bytes-is (v .nk))) in (
+    let fit = start .pre .0 in (
       record {
-        order = fit .0;
-        some = fit .1;
+        order = fit .order;
+        some = fit .some;
         past = omega arith;
         small = omega arith;
-        keyed = omega (arith, long);
-        drawn = omega (arith, need-is (v .nk) (v .d));
+        keyed = omega (arith, long-is (v .nk) (v .d) _ (fit .keyed));
+        drawn = omega (arith, need-is (v .nk) (v .d), fit .drawn);
       },
       search needs,
     )
@@ -55,9 +54,9 @@ returns c =
     let start = key .before .before .before .before .before in
     let v = start .args in
     let q = words .expand .ensures in
-    let long = start .pre .4 ∙ ap (λ (n : ℕ). suc (v .d) * n) (sym (bytes-is (v .nk))) in
+    let long = long-is (v .nk) (v .d) _ (start .pre .0 .keyed) in
     let total = 4 * (v .nk + 7) in
-    let made = expanded-is (v .nk) (v .d) total (now (v .key)) (now (v .tape)) _ _ refl (omega (arith, long)) (key .lay-key .ensures) (q .1) in
+    let made = expanded-is (v .nk) (v .d) total (now (v .key)) (now (v .tape)) _ _ refl (omega (arith, long)) (key .copy-key .ensures) (q .1) in
     (q .0 ∙ need-is (v .nk) (v .d), made)
 
 pub expand-core-spec : {M : Type 1} → statement M
@@ -66,9 +65,9 @@ expand-core-spec =
     (tie.spec
     add-total
     mul-total
-    mul-lay-key
-    mul-lay-key-2
-    lay-key-requires
+    mul-copy-key
+    mul-copy-key-2
+    copy-key-requires
     expand-requires
     same-length
     returns)

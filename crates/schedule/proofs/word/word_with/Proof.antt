@@ -1,5 +1,4 @@
 -- `schedule::word::word_with` meets its contract. Assumes nothing.
--- `schedule::word::word_with` meets its contract. Assumes nothing.
 use native.Mathlib.Omega.{arith}
 use borrow.Author.Needs.{needs}
 use denote.Ref.{now}

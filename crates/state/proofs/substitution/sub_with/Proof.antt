@@ -1,5 +1,4 @@
 -- `state::substitution::sub_with` meets its contract. Assumes nothing.
-use mathlib.Core.Path.{_∙_}
 use borrow.Author.Needs.{needs}
 use Rattle.state.proofs.SubLaws.{sub-made}
 use Rattle.state.proofs.substitution.sub_with.Statement.{statement}
@@ -8,11 +7,8 @@ use Rattle.state.proofs.substitution.sub_with.Tie as tie
 gather-requires : tie.Need-gather-requires
 gather-requires c κs = search needs
 
-box-by-requires : tie.Need-box-by-requires
-box-by-requires c κs =
-    let g = c .before .before .before .before in
-    let p = g .before .before .before .before .before .before .before .pre in
-    (p .0 .order, g .gather .kept .1 .1 .1 .1 .0 ∙ p .1, p .2, p .0 .drawn, p .3)
+box-of-requires : tie.Need-box-of-requires
+box-of-requires c κs = (search needs, search needs)
 
 scatter-requires : tie.Need-scatter-requires
 scatter-requires c κs = search needs
@@ -31,14 +27,14 @@ returns c =
     let third = c .before .before in
     let second = third .before .before .before .before .before .before .before in
     let first = second .before .before .before .before .before in
-    (second .box-by .ensures .0, sub-made _ _ _ _ _ _ _ _ _ (first .gather .ensures) (second .box-by .ensures .1) (third .scatter .ensures))
+    (second .box-of .ensures .0, sub-made _ _ _ _ _ _ _ _ _ (first .gather .ensures) (second .box-of .ensures .1) (third .scatter .ensures))
 
 pub sub-with-spec : {M : Type 1} → statement M
 sub-with-spec =
     tie.close
     (tie.spec
     gather-requires
-    box-by-requires
+    box-of-requires
     scatter-requires
     same-length
     same-length-2

@@ -1,4 +1,4 @@
--- `schedule::expansion::lay_key` meets its contract. Assumes nothing.
+-- `schedule::expansion::copy_key` meets its contract. Assumes nothing.
 use mathlib.Core.Path.{_≡_, refl, ap, _∙_}
 use Prim.Native.Nat.{ℕ, suc, _≤_, _+_, _*_, _-_}
 use native.Mathlib.Omega.{arith}
@@ -8,9 +8,9 @@ use lib.ListN.{length, take, drop}
 use Rattle.shares.specs.Writes.{front}
 use Rattle.shares.proofs.StringsLaws.{part-fits}
 use Rattle.state.proofs.ShareLaws.{Done, done-none, done-more, done-all}
-use Rattle.schedule.proofs.KeyLaws.{with-share, with-share-length, key-laid}
-use Rattle.schedule.proofs.expansion.lay_key.Statement.{statement}
-use Rattle.schedule.proofs.expansion.lay_key.Tie as tie
+use Rattle.schedule.proofs.KeyLaws.{with-share, with-share-length, key-copied}
+use Rattle.schedule.proofs.expansion.copy_key.Statement.{statement}
+use Rattle.schedule.proofs.expansion.copy_key.Tie as tie
 
 abbrev Inv-loop : tie.InvT-loop
 Inv-loop d l m key keys₀ i₀ i-end keys i =
@@ -107,11 +107,11 @@ returns : tie.Need-returns Inv-loop μ-loop
 returns c =
     let loop = c .before in
     let v = loop .before .before .before .args in
-    key-laid (v .d) (v .l) (v .m) (now (v .key)) (now (v .keys)) _ (omega arith) (omega arith) (omega arith)
+    key-copied (v .d) (v .l) (v .m) (now (v .key)) (now (v .keys)) _ (omega arith) (omega arith) (omega arith)
     (done-all (with-share (v .l) (now (v .key))) (v .m) (now (v .keys)) _ _ (suc (v .d)) (omega arith) (omega arith) (loop .loop .inv .2))
 
-pub lay-key-spec : {M : Type 1} → statement M
-lay-key-spec =
+pub copy-key-spec : {M : Type 1} → statement M
+copy-key-spec =
     tie.close
     (tie.spec
     Inv-loop

@@ -1,11 +1,11 @@
--- `sbox::boxes::box_by` meets its contract. Assumes nothing.
+-- `sbox::boxes::box_of` meets its contract. Assumes nothing.
 use mathlib.Core.Path.{sym, ap, _∙_}
 use denote.Ref.{now}
 use Rattle.gf256.specs.declared.Direction.{Direction}
 use Rattle.sbox.specs.Box.{box-of}
 use borrow.Author.Needs.{needs}
-use Rattle.sbox.proofs.boxes.box_by.Statement.{statement}
-use Rattle.sbox.proofs.boxes.box_by.Tie as tie
+use Rattle.sbox.proofs.boxes.box_of.Statement.{statement}
+use Rattle.sbox.proofs.boxes.box_of.Tie as tie
 
 enum-told : tie.Need-enum-told
 enum-told c = search needs
@@ -26,7 +26,12 @@ same-length-2 : tie.Need-same-length-2
 same-length-2 c = search needs
 
 returns : tie.Need-returns
-returns c = let a = c .before .before .before .before .before .before .before .before .before .before .args in let b = c .before .before .box-core .ensures in (b .0, b .1 ∙ sym (ap (λ (w : Direction). box-of w (a .d) (now (a .x)) (now (a .tape))) (c .before .before .before .before .before .enum-told .given .1)))
+returns c =
+    let core = c .before .before in
+    let told = core .before .before .before in
+    let a = told .before .before .before .before .before .args in
+    let q = core .box-core .ensures in
+    (q .0, q .1 ∙ sym (ap (λ (w : Direction). box-of w (a .d) (now (a .x)) (now (a .tape))) (told .enum-told .given .1)))
 
 same-length-3 : tie.Need-same-length-3
 same-length-3 c = search needs
@@ -35,10 +40,15 @@ same-length-4 : tie.Need-same-length-4
 same-length-4 c = search needs
 
 returns-2 : tie.Need-returns-2
-returns-2 c = let a = c .before .before .before .before .before .before .before .before .before .before .before .before .args in let b = c .before .before .before .before .inverse-box-core .ensures in (b .0, b .1 ∙ sym (ap (λ (w : Direction). box-of w (a .d) (now (a .x)) (now (a .tape))) (c .before .before .before .before .before .before .before .enum-told2 .given .1)))
+returns-2 c =
+    let core = c .before .before .before .before in
+    let told = core .before .before .before in
+    let a = told .before .before .before .before .before .args in
+    let q = core .inverse-box-core .ensures in
+    (q .0, q .1 ∙ sym (ap (λ (w : Direction). box-of w (a .d) (now (a .x)) (now (a .tape))) (told .enum-told2 .given .1)))
 
-pub box-by-spec : {M : Type 1} → statement M
-box-by-spec =
+pub box-of-spec : {M : Type 1} → statement M
+box-of-spec =
     tie.close
     (tie.spec
     enum-told
