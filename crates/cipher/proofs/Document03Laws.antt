@@ -14,16 +14,16 @@ use lib.Seq.{drop-drop, getD-append-seam}
 use Rattle.xor.specs.Lists.{at, tab, runs, All, done, _&_, Below}
 use Rattle.xor.proofs.DigitLaws.{two-pos, digit-cases}
 use Rattle.xor.proofs.ListsLaws.{tab-cong}
+use Rattle.xor.proofs.RunsLaws.{tab-from}
 use Rattle.xor.proofs.Tests.{true-T, or-cases}
 use Rattle.gf256.specs.declared.Direction.the-variants.{Forward}
 use Rattle.gf256.specs.Field.{times, squared, fourth, sixteenth, affine, constant}
 use Rattle.gf256.proofs.AffineLaws.{affine-lt}
 use Rattle.isw.specs.Place.{product-need}
 use Rattle.isw.specs.Document03.{product, product-tape}
-use Rattle.isw.proofs.RunsLaws.{tab-from}
 use Rattle.isw.proofs.SheetLaws.{length-product}
 use Rattle.isw.proofs.Document03Laws.{product-agrees, need-agrees}
-use Rattle.shares.specs.Refresh.{into, stirred, refresh-pairs, refreshed, refresh-need}
+use Rattle.shares.specs.Refresh.{into, pairs-refreshed, refresh-pairs, refreshed, refresh-need}
 use Rattle.shares.specs.Strings.{Shares, Shared}
 use Rattle.shares.proofs.RefreshLaws.{refresh-need-is, length-refreshed}
 use Rattle.shares.proofs.StringsLaws.{shared-parts}
@@ -52,10 +52,10 @@ set-seam [] z v zs = refl
 set-seam (y ∷ ys) z v zs = ap (_∷_ y) (set-seam ys z v zs)
 
 -- t into the first share, and into the one behind ys
-stirred-once : (x z t : ℕ) (ys zs : List ℕ)
+pairs-refreshed-once : (x z t : ℕ) (ys zs : List ℕ)
     → into (into (x ∷ (ys ++ z ∷ zs)) 0 t) (suc (length ys)) t ≡ bitXor x t ∷ ((ys ++ (bitXor z t ∷ [])) ++ zs)
 unfolding into at
-stirred-once x z t ys zs =
+pairs-refreshed-once x z t ys zs =
     ap (_∷_ (bitXor x t))
     (ap (λ (v : ℕ). set (ys ++ z ∷ zs) (length ys) (bitXor v t)) (getD-append-seam ys z zs 0)
     ∙ set-seam ys z (bitXor z t) zs ∙ sym (append-assoc ys (bitXor z t ∷ []) zs))
@@ -63,15 +63,15 @@ stirred-once x z t ys zs =
 abbrev pair-at : ℕ → ℕ × ℕ
 pair-at k = (0, suc k)
 
-refresh-from-is : (x : ℕ) (zs ts ys : List ℕ) → D.refresh-from x zs ts ys ≡ stirred (tab (λ k. pair-at (length ys + k)) (length zs)) (x ∷ (ys ++ zs)) ts
-unfolding D.refresh-from stirred
+refresh-from-is : (x : ℕ) (zs ts ys : List ℕ) → D.refresh-from x zs ts ys ≡ pairs-refreshed (tab (λ k. pair-at (length ys + k)) (length zs)) (x ∷ (ys ++ zs)) ts
+unfolding D.refresh-from pairs-refreshed
 refresh-from-is x [] ts ys = unfold tab runs in ap (_∷_ x) (sym (append-nil ys))
 refresh-from-is x (z ∷ zs) ts ys =
     let t = at ts 0 in
     let e : length (ys ++ (bitXor z t ∷ [])) ≡ suc (length ys) = length-append ys (bitXor z t ∷ []) ∙ add-one (length ys) in
     refresh-from-is (bitXor x t) zs (drop 1 ts) (ys ++ (bitXor z t ∷ []))
-    ∙ ap₂ (λ (n : ℕ) (l : List ℕ). stirred (tab (λ k. pair-at (n + k)) (length zs)) l (drop 1 ts)) e (sym (stirred-once x z t ys zs))
-    ∙ sym (ap (λ (ps : List (ℕ × ℕ)). stirred ps (x ∷ (ys ++ z ∷ zs)) ts) (tab-from pair-at (length ys) (length zs)))
+    ∙ ap₂ (λ (n : ℕ) (l : List ℕ). pairs-refreshed (tab (λ k. pair-at (n + k)) (length zs)) l (drop 1 ts)) e (sym (pairs-refreshed-once x z t ys zs))
+    ∙ sym (ap (λ (ps : List (ℕ × ℕ)). pairs-refreshed ps (x ∷ (ys ++ z ∷ zs)) ts) (tab-from pair-at (length ys) (length zs)))
 
 pub refresh-agrees : (d : ℕ) (xs ts : List ℕ) → length xs ≡ suc d → D.refreshed xs ts ≡ refreshed d xs ts
 unfolding D.refreshed refreshed refresh-pairs
@@ -79,7 +79,7 @@ refresh-agrees d [] ts e = absurd (omega arith)
 refresh-agrees d (x ∷ zs) ts e =
     let n : length zs ≡ d = omega arith in
     refresh-from-is x zs ts []
-    ∙ ap (λ (ps : List (ℕ × ℕ)). stirred ps (x ∷ zs) ts) (tab-cong _ _ (length zs) (λ k h. ap pair-at (zero-add k)) ∙ ap (tab pair-at) n)
+    ∙ ap (λ (ps : List (ℕ × ℕ)). pairs-refreshed ps (x ∷ zs) ts) (tab-cong _ _ (length zs) (λ k h. ap pair-at (zero-add k)) ∙ ap (tab pair-at) n)
 
 -- ---- the S-box
 

@@ -5,7 +5,8 @@ use Prim.Native.Nat.{ℕ, zero, suc, _+_, _*_, _-_}
 use native.Mathlib.Nat.{suc-mul}
 use native.Mathlib.Omega.{arith}
 use Rattle.xor.specs.Lists.{tab, runs}
-use Rattle.isw.specs.Place.{before-row, product-need}
+use Rattle.xor.specs.Pairs.{before-row}
+use Rattle.isw.specs.Place.{product-need}
 use Rattle.shares.specs.Refresh.{refresh-pairs, refresh-need}
 use Rattle.sbox.specs.Box.{stage-need, box-need}
 use Rattle.cipher.specs.Fips197.{kind, rounds, total-words}

@@ -11,12 +11,12 @@ use lib.ListN.{length, getD, set, take, drop, length-set, List·getD-append}
 use lib.Seq.{take-at, drop-at, getD-append-add, getD-set-same, getD-set-other, getD-take, getD-drop, ext-getD}
 use Rattle.xor.specs.Lists.{at, tab, runs, All, _&_, Below}
 use Rattle.xor.proofs.ListsLaws.{all-getD, tab-cong, tab-first, length-tab, getD-tab, at-tab, tab-at, map-tab}
+use Rattle.xor.proofs.RunsLaws.{runs-split, tab-from}
 use Rattle.xor.proofs.StringLaws.{at-xors}
 use Rattle.xor.proofs.Tests.{by-eq}
 use Rattle.xor.proofs.XorLaws.{xor-sums}
 use Rattle.gf256.specs.Field.{doubled, power, mixed}
 use Rattle.gf256.proofs.ProductLaws.{times-two, times-three}
-use Rattle.isw.proofs.RunsLaws.{runs-split, tab-from}
 use Rattle.shares.specs.Strings.{Shares, Shared, alone, more, laid, parts}
 use Rattle.cipher.specs.Fips197.{cell, state, shift-rows, mix-columns, word, rot-word, rcon, round-key}
 use Rattle.cipher.specs.States.{column, put, adds, behind, into-first}

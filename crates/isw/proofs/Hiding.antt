@@ -11,11 +11,13 @@ use lib.ListN.{length, getD, length-map}
 use lib.Pow.{pow-pos}
 use lib.Seq.{take-at, drop-at, drop-drop}
 use Rattle.xor.specs.Lists.{at, All, Below}
+use Rattle.xor.specs.Pairs.{each-pair}
 use Rattle.xor.specs.Sums.{xors}
 use Rattle.xor.proofs.ListsLaws.{all-map, all-of-map, all-to-map, all-getD, map-cong, at-map, at-below}
+use Rattle.xor.proofs.PairsLaws.{length-each-pair, all-each-pair}
 use Rattle.isw.specs.Place.{Place, left, places, place-count, product-need, value, sheet, listed}
 use Rattle.isw.specs.Hiding.{factor, choice-length, chosen, same, readings, Hides}
-use Rattle.isw.proofs.OrderLaws.{laid, length-laid, laid-below, drawn-moved}
+use Rattle.isw.proofs.OrderLaws.{drawn-moved}
 use Rattle.isw.proofs.PlaceLaws.{Within, places-within, length-places}
 use Rattle.isw.proofs.CountLaws.{sums, how-many-sums, sums-cong, sums-split, sums-xors}
 use Rattle.isw.proofs.MaskLaws.{taken-up, length-taken-up, other-shares, taken-up-below, xors-below, factor-below}
@@ -93,9 +95,9 @@ module _ (op : ℕ → ℕ → ℕ) (w : ℕ) (closed : (x y : ℕ) → x < 2 ^ 
     abbrev moved : (i j : ℕ) → ℕ
     moved = correction op (rows ps) a a′ b b′
 
-    tape-below : Below (2 ^ w) (laid (suc d) moved)
+    tape-below : Below (2 ^ w) (each-pair (suc d) moved)
     tape-below =
-        laid-below (suc d) moved (2 ^ w) (λ i j l u.
+        all-each-pair (suc d) moved (λ i j l u.
         correction-lt op w closed (rows ps) a a′ b b′
         (at-below w (factor-below w hx ha)) (at-below w (factor-below w hv (xors-below w ha left-below)))
         (at-below w (factor-below w hy hb)) (at-below w (factor-below w hz (xors-below w hb right-below))) i j)
@@ -106,7 +108,7 @@ module _ (op : ℕ → ℕ → ℕ) (w : ℕ) (closed : (x y : ℕ) → x < 2 ^ 
     tape-step =
         sums-cong (2 ^ w) _ _ _ (λ ts lt ht.
         ap g (map-cong _ _ (unseen op (suc d) ps a a′ b b′ _ _ within left-stays right-stays (drawn-moved (suc d) ts moved))))
-        ∙ sym (sums-xors w _ (laid (suc d) moved) _ (omega (arith, length-laid (suc d) moved)) tape-below)
+        ∙ sym (sums-xors w _ (each-pair (suc d) moved) _ (omega (arith, length-each-pair (suc d) moved)) tape-below)
 
   all-same : over-choices op w d x y ps g ≡ over-choices op w d v z ps g
   unfolding over-choices

@@ -9,9 +9,10 @@ use lib.Bits.{bitXor}
 use lib.ListN.{length, drop, set, length-set}
 use lib.Seq.{getD-set-same, getD-set-other}
 use Rattle.xor.specs.Lists.{at, tab}
+use Rattle.xor.specs.Pairs.{before-row}
 use Rattle.xor.proofs.ListsLaws.{length-tab, at-tab, tab-at, tab-cong}
 use Rattle.gf256.specs.Field.{times}
-use Rattle.isw.specs.Place.{running, row, before-row, drawn, product}
+use Rattle.isw.specs.Place.{running, row, drawn, product}
 use Rattle.isw.proofs.PlaceLaws.{skip-past, skip-before}
 use Rattle.shares.specs.Writes.{front}
 use Rattle.shares.proofs.WriteLaws.{at-front}

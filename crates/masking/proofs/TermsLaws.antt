@@ -1,37 +1,22 @@
--- The terms of a product: where the draws of a row of pairs stand on the tape, which terms its bytes are, and what a row counts. Assumes nothing.
+-- The terms of a product: which of them the bytes of a row of pairs are, and what a row counts. Assumes nothing.
 use mathlib.Core.Path.{_≡_, refl, sym, ap, _∙_}
 use mathlib.Core.List.{List}
-use Prim.Native.Nat.{ℕ, zero, suc, _+_, _*_, _-_, _≤_, _<_}
+use Prim.Native.Nat.{ℕ, suc, _+_, _*_, _-_, _≤_, _<_}
 use native.Mathlib.Omega.{arith}
-use native.Mathlib.Numerals.{add-one}
 use borrow.Author.Tests.{lt-ltb, le-ltb}
 use lib.Bits.{bitXor}
 use lib.ListN.{length, take, drop}
 use lib.Seq.{getD-drop}
 use Rattle.xor.specs.Lists.{at, tab}
+use Rattle.xor.specs.Pairs.{before-row, pair-count, draw-index}
 use Rattle.xor.proofs.ListsLaws.{map-tab, tab-cong}
+use Rattle.xor.proofs.PairsLaws.{before-row-next, before-row-le, pair-count-last}
 use Rattle.gf256.specs.Field.{times}
-use Rattle.isw.specs.Place.{part, half-sum, other, term, row, byte, outputs, before-row, draw-index, drawn, product-need, value, product}
+use Rattle.isw.specs.Place.{part, half-sum, other, term, row, byte, outputs, drawn, product-need, value, product}
 use Rattle.shares.specs.Writes.{front}
 use Rattle.shares.proofs.WriteLaws.{length-part-rest, at-front}
-use Rattle.masking.specs.Steps.{halves, crosseds, backs}
-
--- ---- the rows of pairs on the tape: each starts where the one before it ends
-
-pub before-row-next : (n i : ℕ) → before-row n (i + 1) ≡ before-row n i + (n - (i + 1))
-unfolding before-row
-before-row-next n i = rw add-one refl
-
-before-row-up : (n i k : ℕ) → before-row n i ≤ before-row n (i + k)
-before-row-up n i zero = let e : i + 0 ≡ i = omega arith in rw e (omega arith)
-before-row-up n i (suc k) =
-    let e : i + suc k ≡ i + k + 1 = omega arith in
-    rw e (omega (arith, before-row-up n i k, before-row-next n (i + k)))
-
-pub before-row-le : (n i : ℕ) → i < n → before-row n (i + 1) ≤ before-row n n
-before-row-le n i h =
-    let e : i + 1 + (n - (i + 1)) ≡ n = omega arith in
-    rw e at (before-row-up n (i + 1) (n - (i + 1)))
+use Rattle.masking.specs.Steps.{halves, lowers, backs}
+use Rattle.masking.specs.Fits.{Factors-fit, Row-fits}
 
 -- ---- a row's draws and backs are its terms
 
@@ -60,14 +45,15 @@ module _ (n : ℕ) (a b ts : List ℕ) where
 
 -- ---- a product of order d
 
--- it draws what the rows of its pairs do, n of them
-pub product-need-rows : (d : ℕ) → product-need d ≡ before-row (suc d) (suc d)
+-- it draws a byte for each pair
+pub product-need-rows : (d : ℕ) → product-need d ≡ pair-count (suc d)
 unfolding product-need
 product-need-rows d = refl
 
 -- the last share has no row of its own
 pub product-need-last : (d : ℕ) → product-need d ≡ before-row (suc d) d
-product-need-last d = let e = before-row-next (suc d) d in omega (arith, product-need-rows d, rw add-one at e)
+unfolding product-need
+product-need-last d = pair-count-last d
 
 -- row i of its pairs, whose draws stand on the tape from k on: what it counts, and that it fits
 module _ (d i k : ℕ) (h : i < d) (e : k ≡ before-row (suc d) i) where
@@ -79,12 +65,17 @@ module _ (d i k : ℕ) (h : i < d) (e : k ≡ before-row (suc d) i) where
       let z = product-need-rows d in
       (omega arith, omega arith, omega arith, omega arith)
 
-  pub row-fits : (a b ts s : List ℕ) → d ≤ 8 → length a ≡ suc d → length b ≡ suc d → product-need d ≤ length ts → length s ≡ suc d
-      → (0 < d - i) × (i + 1 + (d - i) ≤ 9) × (i + 1 + (d - i) ≤ length a) × (i + 1 + (d - i) ≤ length b)
-      × (d - i ≤ length (take (length ts - k) (drop k ts))) × (i + 1 + (d - i) ≤ length s)
-  row-fits a b ts s few la lb lt ls =
+  pub row-fits : (a b ts s : List ℕ) → Factors-fit d a b ts → length s ≡ suc d → Row-fits i (d - i) a b (take (length ts - k) (drop k ts)) s
+  row-fits a b ts s f ls =
       let r = row-counts in
-      (omega arith, omega arith, omega arith, omega arith, rw (length-part-rest ts k) (omega arith), omega arith)
+      record {
+        some = omega arith;
+        few = omega (arith, f);
+        left = omega (arith, f);
+        right = omega (arith, f);
+        drawn = rw (length-part-rest ts k) (omega (arith, f));
+        summed = omega arith;
+      }
 
   -- so do its pairs, in a sheet
   pub row-room : (o y : List ℕ) → 5 * product-need d ≤ length o → length y ≡ length o
@@ -100,7 +91,7 @@ product-rows d a b ts = sym (map-tab (byte times (at a) (at b) (drawn (suc d) ts
 
 -- the second half of the pairs of a row, on the first half's bytes
 pub backs-right : (a b tape : List ℕ) (i w : ℕ) (h o q x : List ℕ) → h ≡ front (tab (halves a b tape i) w) o
-    → q ≡ front (tab (λ m. bitXor (at h m) (crosseds a b i m)) w) x → q ≡ front (tab (backs a b tape i) w) x
+    → q ≡ front (tab (λ m. bitXor (at h m) (lowers a b i m)) w) x → q ≡ front (tab (backs a b tape i) w) x
 backs-right a b tape i w h o q x e f =
     f ∙ ap (λ (l : List ℕ). front l x)
-    (tab-cong _ _ w (λ m l. ap (λ (z : ℕ). bitXor z (crosseds a b i m)) (at-front (halves a b tape i) w m h o e l)))
+    (tab-cong _ _ w (λ m l. ap (λ (z : ℕ). bitXor z (lowers a b i m)) (at-front (halves a b tape i) w m h o e l)))

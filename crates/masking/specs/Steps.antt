@@ -10,21 +10,21 @@ use Rattle.isw.specs.Place.{running}
 
 -- the bytes of the pairs of row i, with the shares behind it, whose draws stand at the front of the tape: pair m is that with share i + 1 + m
 module _ (a b : List ℕ) where
-  -- a_i · b_j
-  abbrev pub crosses : (i m : ℕ) → ℕ
-  crosses i m = times (at a i) (at b (i + 1 + m))
+  -- the product above the diagonal, a_i · b_j
+  abbrev pub uppers : (i m : ℕ) → ℕ
+  uppers i m = times (at a i) (at b (i + 1 + m))
 
   -- r(i, j) XOR a_i · b_j
   abbrev pub halves : (tape : List ℕ) (i m : ℕ) → ℕ
-  halves ts i m = bitXor (at ts m) (crosses i m)
+  halves ts i m = bitXor (at ts m) (uppers i m)
 
-  -- a_j · b_i
-  abbrev pub crosseds : (i m : ℕ) → ℕ
-  crosseds i m = times (at a (i + 1 + m)) (at b i)
+  -- the product below it, a_j · b_i
+  abbrev pub lowers : (i m : ℕ) → ℕ
+  lowers i m = times (at a (i + 1 + m)) (at b i)
 
   -- r(j, i): the brackets stand as document 01 has them
   abbrev pub backs : (tape : List ℕ) (i m : ℕ) → ℕ
-  backs ts i m = bitXor (halves ts i m) (crosseds i m)
+  backs ts i m = bitXor (halves ts i m) (lowers i m)
 
 -- ---- the running sums
 

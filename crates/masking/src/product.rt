@@ -1,13 +1,14 @@
 // The masked product of two bytes in shares: each share's running sum takes in its terms pair by pair, in the order of the draws.
 // Document 01, "The steps over shares", decides.
 ghost use mathlib.Core.Path.{_≡_};
-ghost use Prim.Native.Nat.{suc, _+_, _≤_, _<_};
+ghost use Prim.Native.Nat.{suc, _≤_};
 ghost use lib.ListN.{length};
 ghost use Rattle.gf256.specs.Field as Field;
 ghost use Rattle.gf256.specs.Tables.{Tables};
 ghost use Rattle.isw.specs.Place as Place;
 ghost use Rattle.shares.specs.Outcome.{outcome, answered, took};
 ghost use Rattle.masking.specs.Steps;
+ghost use Rattle.masking.specs.Fits.{Factors-fit, Row-fits};
 ghost use Rattle.masking.specs.Calls.{two-fit, Factor-tests, Product-outcome};
 use gf256::Antilogs;
 use gf256::Logs;
@@ -24,7 +25,7 @@ pub fn product_need(d: usize) -> usize
 }
 
 // Whether both factors have n shares, by their lengths.
-fn two_fit(d: usize, left: usize, right: usize) -> bool
+pub fn two_fit(d: usize, left: usize, right: usize) -> bool
     requires { ⌜ d ≤ 8 ⌝ }
     ensures { λ r. ⌜ r ≡ two-fit d left right ⌝ }
 {
@@ -72,14 +73,13 @@ fn product_row(
     tape: &[u8],
     sums: &mut [u8],
 ) -> usize
-    requires { ⌜ (0 < w) × (i + 1 + w ≤ 9) × (i + 1 + w ≤ length (now a)) × (i + 1 + w ≤ length (now b))
-        × (w ≤ length (now tape)) × (i + 1 + w ≤ length (now sums)) × Tables (now logs) (now antilogs) ⌝ }
+    requires { ⌜ Row-fits i w (now a) (now b) (now tape) (now sums) × Tables (now logs) (now antilogs) ⌝ }
     ensures { λ k. ⌜ (k ≡ w)
         × (now (sums .exit) ≡ Steps.pairs-taken (now (a .entry)) (now (b .entry)) (now (tape .entry)) i w (now (sums .entry))) ⌝ }
 {
-    let mut cross = [0u8; 8];
+    let mut upper = [0u8; 8];
     let mut half = [0u8; 8];
-    let mut crossed = [0u8; 8];
+    let mut lower = [0u8; 8];
     let mut back = [0u8; 8];
     let mut own = [0u8; 8];
     crate::steps::take_row(
@@ -90,9 +90,9 @@ fn product_row(
         a,
         b,
         tape,
-        &mut cross,
+        &mut upper,
         &mut half,
-        &mut crossed,
+        &mut lower,
         &mut back,
         &mut own,
         sums,
@@ -109,8 +109,7 @@ fn take_pairs(
     tape: &[u8],
     sums: &mut [u8],
 ) -> usize
-    requires { ⌜ (d ≤ 8) × (length (now a) ≡ suc d) × (length (now b) ≡ suc d)
-        × (Place.product-need d ≤ length (now tape)) × (now sums ≡ Steps.starts (now a) (now b) (suc d))
+    requires { ⌜ Factors-fit d (now a) (now b) (now tape) × (now sums ≡ Steps.starts (now a) (now b) (suc d))
         × Tables (now logs) (now antilogs) ⌝ }
     ensures { λ k. ⌜ (k ≡ Place.product-need d)
         × (now (sums .exit) ≡ Place.product Field.times d (now (a .entry)) (now (b .entry)) (now (tape .entry))) ⌝ }

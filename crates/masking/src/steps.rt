@@ -19,6 +19,7 @@ ghost use Rattle.gf256.specs.Tables.{Tables};
 ghost use Rattle.isw.specs.Place as Place;
 ghost use Rattle.shares.specs.Writes.{front};
 ghost use Rattle.masking.specs.Steps;
+ghost use Rattle.masking.specs.Fits.{Row-fits, Rows-fit, Half-fits, Sums-fit};
 use gf256::Antilogs;
 use gf256::Logs;
 use gf256::table_product::table_times;
@@ -44,14 +45,12 @@ fn half_row(
     a: &[u8],
     b: &[u8],
     tape: &[u8],
-    cross: &mut [u8],
+    upper: &mut [u8],
     half: &mut [u8],
 ) -> usize
-    requires { ⌜ (i + 1 + w ≤ 9) × (i + 1 + w ≤ length (now a)) × (i + 1 + w ≤ length (now b))
-        × (w ≤ length (now tape)) × (w ≤ length (now cross)) × (w ≤ length (now half))
-        × Tables (now logs) (now antilogs) ⌝ }
+    requires { ⌜ Half-fits i w (now a) (now b) (now tape) (now upper) (now half) × Tables (now logs) (now antilogs) ⌝ }
     ensures { λ k. ⌜ (k ≡ w)
-        × (now (cross .exit) ≡ front (tab (Steps.crosses (now (a .entry)) (now (b .entry)) i) w) (now (cross .entry)))
+        × (now (upper .exit) ≡ front (tab (Steps.uppers (now (a .entry)) (now (b .entry)) i) w) (now (upper .entry)))
         × (now (half .exit) ≡ front (tab (Steps.halves (now (a .entry)) (now (b .entry)) (now (tape .entry)) i) w) (now (half .entry))) ⌝ }
 {
     let ai = a[i];
@@ -60,7 +59,7 @@ fn half_row(
         let r = tape[drawn];
         drawn += 1;
         let c = table_times(logs, antilogs, ai, b[i + 1 + m]);
-        cross[m] = c;
+        upper[m] = c;
         half[m] = r ^ c;
     }
     drawn
@@ -75,21 +74,19 @@ fn back_row(
     a: &[u8],
     b: &[u8],
     half: &[u8],
-    crossed: &mut [u8],
+    lower: &mut [u8],
     back: &mut [u8],
 )
-    requires { ⌜ (i + 1 + w ≤ 9) × (i + 1 + w ≤ length (now a)) × (i + 1 + w ≤ length (now b))
-        × (w ≤ length (now half)) × (w ≤ length (now crossed)) × (w ≤ length (now back))
-        × Tables (now logs) (now antilogs) ⌝ }
-    ensures { λ _. ⌜ (now (crossed .exit) ≡ front (tab (Steps.crosseds (now (a .entry)) (now (b .entry)) i) w) (now (crossed .entry)))
+    requires { ⌜ Half-fits i w (now a) (now b) (now half) (now lower) (now back) × Tables (now logs) (now antilogs) ⌝ }
+    ensures { λ _. ⌜ (now (lower .exit) ≡ front (tab (Steps.lowers (now (a .entry)) (now (b .entry)) i) w) (now (lower .entry)))
         × (now (back .exit)
-        ≡ front (tab (λ m. bitXor (at (now (half .entry)) m) (Steps.crosseds (now (a .entry)) (now (b .entry)) i m)) w)
+        ≡ front (tab (λ m. bitXor (at (now (half .entry)) m) (Steps.lowers (now (a .entry)) (now (b .entry)) i m)) w)
         (now (back .entry))) ⌝ }
 {
     let bi = b[i];
     for m in 0..w {
         let c = table_times(logs, antilogs, a[i + 1 + m], bi);
-        crossed[m] = c;
+        lower[m] = c;
         back[m] = half[m] ^ c;
     }
 }
@@ -97,8 +94,7 @@ fn back_row(
 // The pairs of row i with the w shares behind it go into the running sums: the draws, which stand at the front of the tape, into that of share i,
 // whose bytes on the way are left in own; each r(j, i) of the row back into that of share j.
 fn sum_row(i: usize, w: usize, tape: &[u8], back: &[u8], own: &mut [u8], sums: &mut [u8])
-    requires { ⌜ (0 < w) × (i + 1 + w ≤ 9) × (w ≤ length (now tape)) × (w ≤ length (now back))
-        × (w ≤ length (now own)) × (i + 1 + w ≤ length (now sums)) ⌝ }
+    requires { ⌜ Sums-fit i w (now tape) (now back) (now own) (now sums) ⌝ }
     ensures { λ _. ⌜ (now (own .exit) ≡ front (Steps.owns (now (tape .entry)) (now (sums .entry)) i w) (now (own .entry)))
         × (now (sums .exit) ≡ Steps.row-taken i w (at (now (tape .entry))) (at (now (back .entry))) (now (sums .entry))) ⌝ }
 {
@@ -115,7 +111,8 @@ fn sum_row(i: usize, w: usize, tape: &[u8], back: &[u8], own: &mut [u8], sums: &
 }
 
 // The pairs of row i with the w shares behind it, whose draws stand at the front of the tape, and then its running sums. The bytes of each pair are
-// left over the fronts of four rows: a_i · b_j, r(i, j) XOR a_i · b_j, a_j · b_i and r(j, i). Answers with how many bytes were drawn.
+// left over the fronts of four rows: a_i · b_j, the product above the diagonal; r(i, j) XOR a_i · b_j; a_j · b_i, the one below it; and r(j, i).
+// Answers with how many bytes were drawn.
 pub fn take_row(
     logs: &Logs,
     antilogs: &Antilogs,
@@ -124,27 +121,25 @@ pub fn take_row(
     a: &[u8],
     b: &[u8],
     tape: &[u8],
-    cross: &mut [u8],
+    upper: &mut [u8],
     half: &mut [u8],
-    crossed: &mut [u8],
+    lower: &mut [u8],
     back: &mut [u8],
     own: &mut [u8],
     sums: &mut [u8],
 ) -> usize
-    requires { ⌜ (0 < w) × (i + 1 + w ≤ 9) × (i + 1 + w ≤ length (now a)) × (i + 1 + w ≤ length (now b))
-        × (w ≤ length (now tape)) × (w ≤ length (now cross)) × (w ≤ length (now half))
-        × (w ≤ length (now crossed)) × (w ≤ length (now back)) × (w ≤ length (now own))
-        × (i + 1 + w ≤ length (now sums)) × Tables (now logs) (now antilogs) ⌝ }
+    requires { ⌜ Row-fits i w (now a) (now b) (now tape) (now sums) × Rows-fit w (now upper) (now half) (now lower) (now back)
+        × (w ≤ length (now own)) × Tables (now logs) (now antilogs) ⌝ }
     ensures { λ k. ⌜ (k ≡ w)
-        × (now (cross .exit) ≡ front (tab (Steps.crosses (now (a .entry)) (now (b .entry)) i) w) (now (cross .entry)))
+        × (now (upper .exit) ≡ front (tab (Steps.uppers (now (a .entry)) (now (b .entry)) i) w) (now (upper .entry)))
         × (now (half .exit) ≡ front (tab (Steps.halves (now (a .entry)) (now (b .entry)) (now (tape .entry)) i) w) (now (half .entry)))
-        × (now (crossed .exit) ≡ front (tab (Steps.crosseds (now (a .entry)) (now (b .entry)) i) w) (now (crossed .entry)))
+        × (now (lower .exit) ≡ front (tab (Steps.lowers (now (a .entry)) (now (b .entry)) i) w) (now (lower .entry)))
         × (now (back .exit) ≡ front (tab (Steps.backs (now (a .entry)) (now (b .entry)) (now (tape .entry)) i) w) (now (back .entry)))
         × (now (own .exit) ≡ front (Steps.owns (now (tape .entry)) (now (sums .entry)) i w) (now (own .entry)))
         × (now (sums .exit) ≡ Steps.pairs-taken (now (a .entry)) (now (b .entry)) (now (tape .entry)) i w (now (sums .entry))) ⌝ }
 {
-    let drawn = half_row(logs, antilogs, i, w, a, b, tape, cross, half);
-    back_row(logs, antilogs, i, w, a, b, half, crossed, back);
+    let drawn = half_row(logs, antilogs, i, w, a, b, tape, upper, half);
+    back_row(logs, antilogs, i, w, a, b, half, lower, back);
     sum_row(i, w, tape, back, own, sums);
     drawn
 }

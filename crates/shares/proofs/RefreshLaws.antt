@@ -12,7 +12,7 @@ use Rattle.xor.specs.Sums.{joined}
 use Rattle.xor.proofs.ListsLaws.{length-tab, all-tab, all-drop, at-below, tab-last}
 use Rattle.xor.proofs.SumsLaws.{joined-set}
 use Rattle.xor.proofs.XorLaws.{xor-sums}
-use Rattle.shares.specs.Refresh.{into, stirred, refresh-pairs, refreshed, refresh-need}
+use Rattle.shares.specs.Refresh.{into, pairs-refreshed, refresh-pairs, refreshed, refresh-need}
 
 -- ---- one XOR into a share
 
@@ -42,20 +42,20 @@ into-below w {xs} i t g hs = set-below (2 ^ w) i (bitXor (at xs i) t) (xor-lt w 
 abbrev pub Among : (n : ℕ) → ℕ × ℕ → Type 0
 Among n p = (p .0 < n) × (p .1 < n)
 
-pub length-stirred : (ps : List (ℕ × ℕ)) (xs ts : List ℕ) → length (stirred ps xs ts) ≡ length xs
-unfolding stirred
-length-stirred [] xs ts = refl
-length-stirred (p ∷ ps) xs ts =
-    length-stirred ps (into (into xs (p .0) (at ts 0)) (p .1) (at ts 0)) (drop 1 ts)
+pub length-pairs-refreshed : (ps : List (ℕ × ℕ)) (xs ts : List ℕ) → length (pairs-refreshed ps xs ts) ≡ length xs
+unfolding pairs-refreshed
+length-pairs-refreshed [] xs ts = refl
+length-pairs-refreshed (p ∷ ps) xs ts =
+    length-pairs-refreshed ps (into (into xs (p .0) (at ts 0)) (p .1) (at ts 0)) (drop 1 ts)
     ∙ length-into (into xs (p .0) (at ts 0)) (p .1) (at ts 0) ∙ length-into xs (p .0) (at ts 0)
 
-pub stirred-joins : (n : ℕ) {ps : List (ℕ × ℕ)} → All (Among n) ps → (xs ts : List ℕ) → length xs ≡ n → joined (stirred ps xs ts) ≡ joined xs
-unfolding stirred
-stirred-joins n done xs ts e = refl
-stirred-joins n (_&_ {x = p} h hs) xs ts e =
+pub pairs-refreshed-joins : (n : ℕ) {ps : List (ℕ × ℕ)} → All (Among n) ps → (xs ts : List ℕ) → length xs ≡ n → joined (pairs-refreshed ps xs ts) ≡ joined xs
+unfolding pairs-refreshed
+pairs-refreshed-joins n done xs ts e = refl
+pairs-refreshed-joins n (_&_ {x = p} h hs) xs ts e =
     let l₁ = length-into xs (p .0) (at ts 0) in
     let l₂ = length-into (into xs (p .0) (at ts 0)) (p .1) (at ts 0) in
-    stirred-joins n hs (into (into xs (p .0) (at ts 0)) (p .1) (at ts 0)) (drop 1 ts) (l₂ ∙ l₁ ∙ e)
+    pairs-refreshed-joins n hs (into (into xs (p .0) (at ts 0)) (p .1) (at ts 0)) (drop 1 ts) (l₂ ∙ l₁ ∙ e)
     ∙ joined-into (into xs (p .0) (at ts 0)) (p .1) (at ts 0) (omega arith)
     ∙ ap (λ (x : ℕ). bitXor x (at ts 0)) (joined-into xs (p .0) (at ts 0) (omega arith))
     ∙ twice (joined xs) (at ts 0)
@@ -63,11 +63,11 @@ stirred-joins n (_&_ {x = p} h hs) xs ts e =
     twice : (x t : ℕ) → bitXor (bitXor x t) t ≡ x
     twice x t = simp xor-sums
 
-pub stirred-below : (w : ℕ) (ps : List (ℕ × ℕ)) {xs ts : List ℕ} → Below (2 ^ w) xs → Below (2 ^ w) ts → Below (2 ^ w) (stirred ps xs ts)
-unfolding stirred
-stirred-below w [] hs gs = hs
-stirred-below w (p ∷ ps) {xs} {ts} hs gs =
-    stirred-below w ps (into-below w (p .1) (at ts 0) (at-below w gs 0) (into-below w (p .0) (at ts 0) (at-below w gs 0) hs)) (all-drop 1 gs)
+pub pairs-refreshed-below : (w : ℕ) (ps : List (ℕ × ℕ)) {xs ts : List ℕ} → Below (2 ^ w) xs → Below (2 ^ w) ts → Below (2 ^ w) (pairs-refreshed ps xs ts)
+unfolding pairs-refreshed
+pairs-refreshed-below w [] hs gs = hs
+pairs-refreshed-below w (p ∷ ps) {xs} {ts} hs gs =
+    pairs-refreshed-below w ps (into-below w (p .1) (at ts 0) (at-below w gs 0) (into-below w (p .0) (at ts 0) (at-below w gs 0) hs)) (all-drop 1 gs)
 
 next : (ts : List ℕ) (k : ℕ) → at (drop 1 ts) k ≡ at ts (suc k)
 unfolding at
@@ -75,19 +75,19 @@ next [] k = refl
 next (t ∷ ts) k = refl
 
 -- one pair more draws the next byte
-pub stirred-last : (ps : List (ℕ × ℕ)) (p : ℕ × ℕ) (xs ts : List ℕ)
-    → stirred (ps ++ (p ∷ [])) xs ts ≡ into (into (stirred ps xs ts) (p .0) (at ts (length ps))) (p .1) (at ts (length ps))
-unfolding stirred
-stirred-last [] p xs ts = refl
-stirred-last (q ∷ ps) p xs ts =
-    stirred-last ps p (into (into xs (q .0) (at ts 0)) (q .1) (at ts 0)) (drop 1 ts)
-    ∙ ap (λ (t : ℕ). into (into (stirred ps (into (into xs (q .0) (at ts 0)) (q .1) (at ts 0)) (drop 1 ts)) (p .0) t) (p .1) t) (next ts (length ps))
+pub pairs-refreshed-last : (ps : List (ℕ × ℕ)) (p : ℕ × ℕ) (xs ts : List ℕ)
+    → pairs-refreshed (ps ++ (p ∷ [])) xs ts ≡ into (into (pairs-refreshed ps xs ts) (p .0) (at ts (length ps))) (p .1) (at ts (length ps))
+unfolding pairs-refreshed
+pairs-refreshed-last [] p xs ts = refl
+pairs-refreshed-last (q ∷ ps) p xs ts =
+    pairs-refreshed-last ps p (into (into xs (q .0) (at ts 0)) (q .1) (at ts 0)) (drop 1 ts)
+    ∙ ap (λ (t : ℕ). into (into (pairs-refreshed ps (into (into xs (q .0) (at ts 0)) (q .1) (at ts 0)) (drop 1 ts)) (p .0) t) (p .1) t) (next ts (length ps))
 
-stirred-surplus : (ps : List (ℕ × ℕ)) (xs ts us : List ℕ) → length ps ≤ length ts → stirred ps xs (ts ++ us) ≡ stirred ps xs ts
-unfolding stirred at
-stirred-surplus [] xs ts us h = refl
-stirred-surplus (p ∷ ps) xs [] us h = absurd (omega arith)
-stirred-surplus (p ∷ ps) xs (t ∷ ts) us h = stirred-surplus ps (into (into xs (p .0) t) (p .1) t) ts us (omega arith)
+pairs-refreshed-surplus : (ps : List (ℕ × ℕ)) (xs ts us : List ℕ) → length ps ≤ length ts → pairs-refreshed ps xs (ts ++ us) ≡ pairs-refreshed ps xs ts
+unfolding pairs-refreshed at
+pairs-refreshed-surplus [] xs ts us h = refl
+pairs-refreshed-surplus (p ∷ ps) xs [] us h = absurd (omega arith)
+pairs-refreshed-surplus (p ∷ ps) xs (t ∷ ts) us h = pairs-refreshed-surplus ps (into (into xs (p .0) t) (p .1) t) ts us (omega arith)
 
 -- ---- this refresh
 
@@ -97,19 +97,19 @@ refresh-need-is d = length-tab (λ k. (0, suc k)) d
 
 pub length-refreshed : (d : ℕ) (xs ts : List ℕ) → length (refreshed d xs ts) ≡ length xs
 unfolding refreshed
-length-refreshed d xs ts = length-stirred (refresh-pairs d) xs ts
+length-refreshed d xs ts = length-pairs-refreshed (refresh-pairs d) xs ts
 
 pub refresh-joins : (d : ℕ) (xs ts : List ℕ) → length xs ≡ suc d → joined (refreshed d xs ts) ≡ joined xs
 unfolding refreshed refresh-pairs
-refresh-joins d xs ts e = stirred-joins (suc d) (all-tab (λ k. (0, suc k)) d (λ k l. (omega arith, omega arith))) xs ts e
+refresh-joins d xs ts e = pairs-refreshed-joins (suc d) (all-tab (λ k. (0, suc k)) d (λ k l. (omega arith, omega arith))) xs ts e
 
 pub refresh-below : (w d : ℕ) {xs ts : List ℕ} → Below (2 ^ w) xs → Below (2 ^ w) ts → Below (2 ^ w) (refreshed d xs ts)
 unfolding refreshed
-refresh-below w d hs gs = stirred-below w (refresh-pairs d) hs gs
+refresh-below w d hs gs = pairs-refreshed-below w (refresh-pairs d) hs gs
 
 pub refresh-surplus : (d : ℕ) (xs ts us : List ℕ) → refresh-need d ≤ length ts → refreshed d xs (ts ++ us) ≡ refreshed d xs ts
 unfolding refreshed refresh-need
-refresh-surplus d xs ts us h = stirred-surplus (refresh-pairs d) xs ts us h
+refresh-surplus d xs ts us h = pairs-refreshed-surplus (refresh-pairs d) xs ts us h
 
 pairs-last : (k : ℕ) → refresh-pairs (suc k) ≡ refresh-pairs k ++ ((0, suc k) ∷ [])
 unfolding refresh-pairs
@@ -121,11 +121,11 @@ pub refresh-more : (k i : ℕ) (x xs ts : List ℕ) → x ≡ refreshed k xs ts 
 unfolding refreshed refresh-need into at
 refresh-more k i x xs ts e h =
     let l : length (refresh-pairs k) ≡ k = refresh-need-is k in
-    rw (h, e, add-one, pairs-last k) (sym (stirred-last (refresh-pairs k) (0, suc k) xs ts
-    ∙ ap (λ (m : ℕ). into (into (stirred (refresh-pairs k) xs ts) 0 (getD ts m 0)) (suc k) (getD ts m 0)) l))
+    rw (h, e, add-one, pairs-last k) (sym (pairs-refreshed-last (refresh-pairs k) (0, suc k) xs ts
+    ∙ ap (λ (m : ℕ). into (into (pairs-refreshed (refresh-pairs k) xs ts) 0 (getD ts m 0)) (suc k) (getD ts m 0)) l))
 
 pub refresh-none : (xs ts : List ℕ) → xs ≡ refreshed 0 xs ts
-unfolding refreshed refresh-pairs tab runs stirred
+unfolding refreshed refresh-pairs tab runs pairs-refreshed
 refresh-none xs ts = refl
 
 -- ---- the same with share 0 apart, which goes its own way and is put back at the end

@@ -11,9 +11,9 @@ unfoldable pub into : List ℕ → (i t : ℕ) → List ℕ
 into xs i t = set xs i (bitXor (at xs i) t)
 
 -- for each pair of shares in turn: draw t, XOR it into the first share and then into the second
-unfoldable pub stirred : List (ℕ × ℕ) → (shares tape : List ℕ) → List ℕ
-stirred [] xs ts = xs
-stirred (p ∷ ps) xs ts = stirred ps (into (into xs (p .0) (at ts 0)) (p .1) (at ts 0)) (drop 1 ts)
+unfoldable pub pairs-refreshed : List (ℕ × ℕ) → (shares tape : List ℕ) → List ℕ
+pairs-refreshed [] xs ts = xs
+pairs-refreshed (p ∷ ps) xs ts = pairs-refreshed ps (into (into xs (p .0) (at ts 0)) (p .1) (at ts 0)) (drop 1 ts)
 
 -- share 0 with each of the shares 1 to d
 unfoldable pub refresh-pairs : (d : ℕ) → List (ℕ × ℕ)
@@ -21,7 +21,7 @@ refresh-pairs d = tab (λ k. (0, suc k)) d
 
 -- the shares of the same byte, masked anew
 unfoldable pub refreshed : (d : ℕ) (shares tape : List ℕ) → List ℕ
-refreshed d xs ts = stirred (refresh-pairs d) xs ts
+refreshed d xs ts = pairs-refreshed (refresh-pairs d) xs ts
 
 -- how many bytes it draws: one for each pair
 unfoldable pub refresh-need : (d : ℕ) → ℕ

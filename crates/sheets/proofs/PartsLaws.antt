@@ -9,9 +9,10 @@ use native.Mathlib.Decide.{decLt}
 use lib.ListN.{length, take, drop, set, length-set, length-drop}
 use lib.Seq.{getD-set-same, getD-set-other, getD-take, getD-drop, length-take-le}
 use Rattle.xor.specs.Lists.{at, runs, tab}
+use Rattle.xor.specs.Pairs.{before-row}
 use Rattle.xor.proofs.ListsLaws.{runs-cong, tab-cong, tab-at, length-runs, length-tab, map-runs, map-tab}
 use Rattle.gf256.specs.Field.{times}
-use Rattle.isw.specs.Place.{part, running, byte, row-places, before-row, drawn}
+use Rattle.isw.specs.Place.{part, running, byte, row-places, drawn}
 use Rattle.shares.specs.Writes.{front}
 use Rattle.shares.proofs.WriteLaws.{at-front}
 use Rattle.masking.specs.Steps.{starts, owns, pairs-taken}

@@ -10,13 +10,15 @@ use borrow.Rule.Slice.PartMut.{putMid}
 use lib.ListN.{length, take, drop, set, length-map, length-append}
 use lib.Seq.{sets-eq, getD-drop}
 use Rattle.xor.specs.Lists.{at, runs, tab}
+use Rattle.xor.specs.Pairs.{before-row, draw-index}
 use Rattle.xor.proofs.ListsLaws.{runs-cong, tab-cong, length-runs, length-tab, map-runs, map-tab, tab-at}
+use Rattle.xor.proofs.PairsLaws.{length-rows}
 use Rattle.gf256.specs.Field.{times}
-use Rattle.isw.specs.Place.{Place, left, right, part, half-sum, other, byte, pair-places, pair-row, row-places, places, place-count, before-row, draw-index, drawn, product-need, value, sheet}
-use Rattle.isw.proofs.OrderLaws.{product-need-is, twice-need, length-rows}
+use Rattle.isw.specs.Place.{Place, left, right, part, half-sum, other, byte, pair-places, pair-row, row-places, places, place-count, drawn, product-need, value, sheet}
+use Rattle.isw.proofs.OrderLaws.{product-need-is, twice-need}
 use Rattle.shares.specs.Writes.{front}
 use Rattle.shares.proofs.WriteLaws.{part-rest, front-part, front-all, at-front}
-use Rattle.masking.specs.Steps.{crosses, halves, crosseds, backs}
+use Rattle.masking.specs.Steps.{uppers, halves, lowers, backs}
 use Rattle.sheets.specs.Parts.{pair-of, bytes-of, five-rows, row-bytes, pairs-before, sums-before, table-rows}
 use Rattle.masking.proofs.TermsLaws.{product-need-rows}
 
@@ -75,16 +77,16 @@ module _ (r c h d k : List ℕ) where
   five-rows-more m = rw add-one refl
 
   -- where the rows hold the bytes of the pairs of row i
-  pub five-rows-right : (a b : List ℕ) (i w : ℕ) (c₀ h₀ d₀ k₀ : List ℕ) → c ≡ front (tab (crosses a b i) w) c₀
+  pub five-rows-right : (a b : List ℕ) (i w : ℕ) (c₀ h₀ d₀ k₀ : List ℕ) → c ≡ front (tab (uppers a b i) w) c₀
       → h ≡ front (tab (halves a b r i) w) h₀
-      → d ≡ front (tab (crosseds a b i) w) d₀ → k ≡ front (tab (backs a b r i) w) k₀ → five-rows r c h d k w ≡ row-bytes a b r i w
+      → d ≡ front (tab (lowers a b i) w) d₀ → k ≡ front (tab (backs a b r i) w) k₀ → five-rows r c h d k w ≡ row-bytes a b r i w
   unfolding five-rows row-bytes
   five-rows-right a b i w c₀ h₀ d₀ k₀ ec eh ed ek =
       runs-cong _ _ w
       (λ m l.
-      let yc = at-front (crosses a b i) w m c c₀ ec l in
+      let yc = at-front (uppers a b i) w m c c₀ ec l in
       let yh = at-front (halves a b r i) w m h h₀ eh l in
-      let yd = at-front (crosseds a b i) w m d d₀ ed l in
+      let yd = at-front (lowers a b i) w m d d₀ ed l in
       let yk = at-front (backs a b r i) w m k k₀ ek l in
       rw (yc, yh, yd, yk) refl)
 

@@ -16,19 +16,19 @@ use Rattle.sheets.specs.declared.Pair.{Pair}
 abbrev pub pair-of : (r ai bj aj bi : ℕ) → Pair
 pair-of r ai bj aj bi = record {
   drawn = r;
-  cross = times ai bj;
+  upper = times ai bj;
   half = bitXor r (times ai bj);
-  crossed = times aj bi;
+  lower = times aj bi;
   back = bitXor (bitXor r (times ai bj)) (times aj bi);
 }
 
 -- in the order of their places
 abbrev pub bytes-of : Pair → List ℕ
-bytes-of p = p .drawn ∷ p .cross ∷ p .half ∷ p .crossed ∷ p .back ∷ []
+bytes-of p = p .drawn ∷ p .upper ∷ p .half ∷ p .lower ∷ p .back ∷ []
 
 -- five rows of w bytes, pair by pair
-unfoldable pub five-rows : (drawn cross half crossed back : List ℕ) (w : ℕ) → List ℕ
-five-rows r c h d k w = runs (λ m. bytes-of (record { drawn = at r m; cross = at c m; half = at h m; crossed = at d m; back = at k m })) w
+unfoldable pub five-rows : (drawn upper half lower back : List ℕ) (w : ℕ) → List ℕ
+five-rows r c h d k w = runs (λ m. bytes-of (record { drawn = at r m; upper = at c m; half = at h m; lower = at d m; back = at k m })) w
 
 -- all bytes of the pairs of row i, with the shares i + 1 to i + w
 unfoldable pub row-bytes : (a b tape : List ℕ) (i w : ℕ) → List ℕ

@@ -12,8 +12,8 @@ ghost use Rattle.shares.specs.Outcome as Outcome;
 ghost use Rattle.shares.specs.Outcome.{outcome};
 ghost use Rattle.shares.specs.Writes.{front};
 ghost use Rattle.masking.specs.Steps as Steps;
+ghost use Rattle.masking.specs.Fits.{Factors-fit, Row-fits, Rows-fit};
 ghost use Rattle.sheets.specs.Parts.{bytes-of, five-rows, row-bytes, pairs-before, sums-before, starts-put, row-put, table-rows};
-ghost use Rattle.sheets.specs.Fits.{Factors-fit, Row-fits, Rows-fit};
 ghost use Rattle.sheets.specs.Calls.{Sheet-outcome};
 use crate::Pair;
 use gf256::Antilogs;
@@ -46,9 +46,9 @@ fn put_pair(p: Pair, out: &mut [u8])
     ensures { λ _. ⌜ now (out .exit) ≡ front (bytes-of p) (now (out .entry)) ⌝ }
 {
     out[0] = p.drawn;
-    out[1] = p.cross;
+    out[1] = p.upper;
     out[2] = p.half;
-    out[3] = p.crossed;
+    out[3] = p.lower;
     out[4] = p.back;
 }
 
@@ -56,23 +56,24 @@ fn put_pair(p: Pair, out: &mut [u8])
 fn put_row(
     w: usize,
     tape: &[u8],
-    cross: &[u8],
+    upper: &[u8],
     half: &[u8],
-    crossed: &[u8],
+    lower: &[u8],
     back: &[u8],
     out: &mut [u8],
 )
-    requires { ⌜ Rows-fit w (now tape) (now cross) (now half) (now crossed) (now back) × (5 * w ≤ length (now out)) ⌝ }
+    requires { ⌜ (w ≤ 8) × (w ≤ length (now tape)) × Rows-fit w (now upper) (now half) (now lower) (now back)
+        × (5 * w ≤ length (now out)) ⌝ }
     ensures { λ _. ⌜ now (out .exit)
-        ≡ front (five-rows (now (tape .entry)) (now (cross .entry)) (now (half .entry)) (now (crossed .entry)) (now (back .entry)) w)
+        ≡ front (five-rows (now (tape .entry)) (now (upper .entry)) (now (half .entry)) (now (lower .entry)) (now (back .entry)) w)
         (now (out .entry)) ⌝ }
 {
     for m in 0..w {
         let p = Pair {
             drawn: tape[m],
-            cross: cross[m],
+            upper: upper[m],
             half: half[m],
-            crossed: crossed[m],
+            lower: lower[m],
             back: back[m],
         };
         let at = 5 * m;
@@ -126,9 +127,9 @@ fn sheet_row(
         ≡ row-put i (λ m. Place.running (at (now (sums .entry)) i) (at (now (tape .entry))) (m + 1))
         (at (now (sums .exit))) (now (table .entry)) w) ⌝ }
 {
-    let mut cross = [0u8; 8];
+    let mut upper = [0u8; 8];
     let mut half = [0u8; 8];
-    let mut crossed = [0u8; 8];
+    let mut lower = [0u8; 8];
     let mut back = [0u8; 8];
     let mut own = [0u8; 8];
     let drawn = masking::steps::take_row(
@@ -139,14 +140,14 @@ fn sheet_row(
         a,
         b,
         tape,
-        &mut cross,
+        &mut upper,
         &mut half,
-        &mut crossed,
+        &mut lower,
         &mut back,
         &mut own,
         sums,
     );
-    put_row(w, tape, &cross, &half, &crossed, &back, out);
+    put_row(w, tape, &upper, &half, &lower, &back, out);
     put_sums(i, w, &own, sums, table);
     drawn
 }

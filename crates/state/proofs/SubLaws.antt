@@ -1,8 +1,8 @@
 -- S-boxes in place: one from the calls that make it, four as a loop, and a state's as a loop over its rows. Assumes nothing.
 use mathlib.Core.Path.{_≡_, refl, ap, _∙_}
 use mathlib.Core.List.{List, _∷_, _++_}
-use Prim.Native.Nat.{ℕ, zero, suc, _+_, _*_, _≤_, _<_}
-use native.Mathlib.Nat.{mul-le-mul-right}
+use Prim.Native.Nat.{ℕ, zero, suc, _+_, _*_, _/_, _≤_, _<_}
+use native.Mathlib.Nat.{mul-le-mul-right, mul-div-cancel}
 use native.Mathlib.Omega.{arith}
 use lib.ListN.{drop}
 use Rattle.xor.specs.Lists.{tab, runs}
@@ -35,8 +35,12 @@ spaced-next first stride (suc (suc (suc zero))) h = refl
 spaced-next first stride (suc (suc (suc (suc m)))) h = absurd (omega arith)
 
 -- each lies within the string
-pub spaced-within : (first stride m l : ℕ) → m < 4 → first + 3 * stride < l → first + m * stride < l
-spaced-within first stride m l h g = let e : m ≤ 3 = omega arith in omega (arith, mul-le-mul-right stride e)
+pub spaced-within : (first stride m l : ℕ) → m < 4 → l ≡ 4 * stride → first < stride → first + m * stride < l
+spaced-within first stride m l h q g = let e : m ≤ 3 = omega arith in omega (arith, mul-le-mul-right stride e)
+
+-- they are four
+pub spaced-count : (first stride l : ℕ) → l ≡ 4 * stride → first < stride → l / stride ≡ 4
+spaced-count first stride l q g = ap (λ (b : ℕ). b / stride) q ∙ mul-div-cancel 4 (omega arith)
 
 unfoldable pub four-boxes : Direction → (d first stride : ℕ) → Loop Shares 4
 unfolding subs-of subs-need spaced tab runs

@@ -23,10 +23,11 @@ pub record Place-fits (d l k : ℕ) (tape s : List ℕ) : Type 0 where
   pub long : length s ≡ suc d * l
   pub drawn : box-need d ≤ length tape
 
--- what four S-boxes ask
+-- what four S-boxes ask, a quarter of the string apart
 pub record Four-fits (d l first stride : ℕ) (tape s : List ℕ) : Type 0 where
   pub order : d ≤ 8
-  pub places : first + 3 * stride < l
+  pub quarter : l ≡ 4 * stride
+  pub place : first < stride
   pub small : l ≤ 16
   pub long : length s ≡ suc d * l
   pub drawn : subs-need d (spaced first stride) ≤ length tape

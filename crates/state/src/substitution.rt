@@ -68,7 +68,8 @@ fn sub_place(
     )
 }
 
-// The S-boxes of four bytes: the first, and the next each `stride` further.
+// The S-boxes of four bytes, a quarter of the string apart: the first, and the next each `stride` further. Their number is worked out, not
+// written as 4: the compiler unrolls a loop of 4 here, and the function is then too long to be inlined.
 fn sub_four(
     logs: &Logs,
     antilogs: &Antilogs,
@@ -85,7 +86,8 @@ fn sub_four(
         × (now (s .exit) ≡ laid (subs-of which d (spaced first stride) (parts (suc d) l (now (s .entry))) (now (tape .entry)))) ⌝ }
 {
     let mut at: usize = 0;
-    for m in 0..4 {
+    let n = l / stride;
+    for m in 0..n {
         let k = first + m * stride;
         at += sub_place(logs, antilogs, which, d, l, k, &tape[at..], s);
     }

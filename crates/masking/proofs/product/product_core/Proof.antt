@@ -18,8 +18,11 @@ take-pairs-requires c κs =
     let start = c .before .before .before in
     let top = start .before .before .before .before .before .before in
     let a = top .args in
-    let p = top .pre in
-    (p .0, p .2, p .3, p .4, start .start-sums .ensures ∙ ap (starts (now (a .a)) (now (a .b))) (add-one (a .d)), p .5)
+    let p = top .pre in (
+      record { order = p .0; left = p .2; right = p .3; drawn = p .4 },
+      start .start-sums .ensures ∙ ap (starts (now (a .a)) (now (a .b))) (add-one (a .d)),
+      p .5,
+    )
 
 same-length : tie.Need-same-length
 same-length c = search needs

@@ -24,8 +24,8 @@ take-row-requires : tie.Need-take-row-requires
 take-row-requires c κs =
     let s = c .before .before .before .before .before .before .before .before .before .before in
     let p = s .pre in
-    let e : s .args .w ≤ 8 = omega arith in
-    (p .0, p .1, p .2, p .3, p .4, e, e, e, e, e, p .5, p .6)
+    let e : s .args .w ≤ 8 = omega (arith, p .0 .few) in
+    (p .0, record { uppers = e; halves = e; lowers = e; backs = e }, e, p .1)
 
 same-length : tie.Need-same-length
 same-length c = search needs

@@ -5,7 +5,8 @@ use native.Mathlib.Omega.{arith}
 use borrow.Author.Needs.{needs}
 use denote.Ref.{now}
 use lib.ListN.{length, drop}
-use Rattle.isw.specs.Place.{before-row, product-need}
+use Rattle.xor.specs.Pairs.{before-row}
+use Rattle.isw.specs.Place.{product-need}
 use Rattle.shares.proofs.WriteLaws.{part-rest}
 use Rattle.masking.proofs.TermsLaws.{product-need-last, row-counts, row-fits}
 use Rattle.masking.proofs.SumsLaws.{length-starts, Sums, sums-start, row-taken-sums, sums-all}
@@ -23,7 +24,7 @@ loop-holds : tie.Need-loop-holds Inv-loop μ-loop
 unfolding before-row
 loop-holds c =
     let s = c .before .before .before .before in
-    (search needs, refl, search needs, length-starts _ _ _ _ (s .pre .4), sums-start _ _ _ _ _ (s .pre .4))
+    (search needs, refl, search needs, length-starts _ _ _ _ (s .pre .1), sums-start _ _ _ _ _ (s .pre .1))
 
 sub-product-row : tie.Need-sub-product-row Inv-loop μ-loop
 sub-product-row c = search needs
@@ -48,8 +49,7 @@ product-row-requires c κs =
     let b = now (v .b) in
     let ts = now (v .tape) in
     let h = c .before .before .loop-test .taken in
-    let r = row-fits (v .d) (l .i) (l .drawn) h (l .inv .1) a b ts (l .sums) (p .0) (p .1) (p .2) (p .3) (l .inv .3) in
-    (r .0, r .1, r .2, r .3, r .4, r .5, p .5)
+    (row-fits (v .d) (l .i) (l .drawn) h (l .inv .1) a b ts (l .sums) (p .0) (l .inv .3), p .2)
 
 add-drawn : tie.Need-add-drawn Inv-loop μ-loop
 add-drawn c =
@@ -82,7 +82,7 @@ loop-again c =
     )
 
 same-length : tie.Need-same-length Inv-loop μ-loop
-same-length c = c .before .loop .inv .3 ∙ sym (length-starts _ _ _ _ (c .before .before .before .before .before .before .pre .4))
+same-length c = c .before .loop .inv .3 ∙ sym (length-starts _ _ _ _ (c .before .before .before .before .before .before .pre .1))
 
 returns : tie.Need-returns Inv-loop μ-loop
 returns c =

@@ -8,17 +8,17 @@ use lib.Bits.{bitXor}
 use lib.ListN.{length, length-set}
 use Rattle.xor.specs.Lists.{at}
 use Rattle.shares.proofs.WriteLaws.{over, over-none, over-more, over-front}
-use Rattle.masking.specs.Steps.{crosseds}
+use Rattle.masking.specs.Steps.{lowers}
 use Rattle.masking.proofs.steps.back_row.Statement.{statement}
 use Rattle.masking.proofs.steps.back_row.Tie as tie
 
 abbrev Inv-loop : tie.InvT-loop
-Inv-loop logs antilogs i w a b half crossed₀ back₀ bi m₀ crossed back m =
-    (m ≤ w) × (crossed ≡ over (crosseds a b i) m crossed₀) × (back ≡ over (λ k. bitXor (at half k) (crosseds a b i k)) m back₀)
-    × (length crossed ≡ length crossed₀) × (length back ≡ length back₀)
+Inv-loop logs antilogs i w a b half lower₀ back₀ bi m₀ lower back m =
+    (m ≤ w) × (lower ≡ over (lowers a b i) m lower₀) × (back ≡ over (λ k. bitXor (at half k) (lowers a b i k)) m back₀)
+    × (length lower ≡ length lower₀) × (length back ≡ length back₀)
 
 abbrev μ-loop : tie.MeasureT-loop
-μ-loop logs antilogs i w a b half crossed₀ back₀ bi m₀ crossed back m = w - m
+μ-loop logs antilogs i w a b half lower₀ back₀ bi m₀ lower back m = w - m
 
 shared-slice-read-bi : tie.Need-shared-slice-read-bi Inv-loop μ-loop
 shared-slice-read-bi c = search needs
@@ -38,8 +38,8 @@ shared-slice-read-table-times c = search needs
 table-times-requires : tie.Need-table-times-requires Inv-loop μ-loop
 table-times-requires c κs = search needs
 
-slice-write-crossed : tie.Need-slice-write-crossed Inv-loop μ-loop
-slice-write-crossed c = search needs
+slice-write-lower : tie.Need-slice-write-lower Inv-loop μ-loop
+slice-write-lower c = search needs
 
 shared-slice-read-back : tie.Need-shared-slice-read-back Inv-loop μ-loop
 shared-slice-read-back c = search needs
@@ -90,7 +90,7 @@ back-row-spec =
     add-table-times-2
     shared-slice-read-table-times
     table-times-requires
-    slice-write-crossed
+    slice-write-lower
     shared-slice-read-back
     slice-write-back
     add-m

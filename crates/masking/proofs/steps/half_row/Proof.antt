@@ -8,17 +8,17 @@ use lib.Bits.{bitXor}
 use lib.ListN.{length, length-set}
 use Rattle.xor.specs.Lists.{at}
 use Rattle.shares.proofs.WriteLaws.{over, over-none, over-more, over-front}
-use Rattle.masking.specs.Steps.{crosses, halves}
+use Rattle.masking.specs.Steps.{uppers, halves}
 use Rattle.masking.proofs.steps.half_row.Statement.{statement}
 use Rattle.masking.proofs.steps.half_row.Tie as tie
 
 abbrev Inv-loop : tie.InvT-loop
-Inv-loop logs antilogs i w a b tape cross₀ half₀ ai drawn₀ m₀ cross half drawn m =
-    (m ≤ w) × (drawn ≡ m) × (cross ≡ over (crosses a b i) m cross₀) × (half ≡ over (halves a b tape i) m half₀)
-    × (length cross ≡ length cross₀) × (length half ≡ length half₀)
+Inv-loop logs antilogs i w a b tape upper₀ half₀ ai drawn₀ m₀ upper half drawn m =
+    (m ≤ w) × (drawn ≡ m) × (upper ≡ over (uppers a b i) m upper₀) × (half ≡ over (halves a b tape i) m half₀)
+    × (length upper ≡ length upper₀) × (length half ≡ length half₀)
 
 abbrev μ-loop : tie.MeasureT-loop
-μ-loop logs antilogs i w a b tape cross₀ half₀ ai drawn₀ m₀ cross half drawn m = w - m
+μ-loop logs antilogs i w a b tape upper₀ half₀ ai drawn₀ m₀ upper half drawn m = w - m
 
 shared-slice-read-ai : tie.Need-shared-slice-read-ai Inv-loop μ-loop
 shared-slice-read-ai c = search needs
@@ -44,8 +44,8 @@ shared-slice-read-table-times c = search needs
 table-times-requires : tie.Need-table-times-requires Inv-loop μ-loop
 table-times-requires c κs = search needs
 
-slice-write-cross : tie.Need-slice-write-cross Inv-loop μ-loop
-slice-write-cross c = search needs
+slice-write-upper : tie.Need-slice-write-upper Inv-loop μ-loop
+slice-write-upper c = search needs
 
 slice-write-half : tie.Need-slice-write-half Inv-loop μ-loop
 slice-write-half c = search needs
@@ -96,7 +96,7 @@ half-row-spec =
     add-table-times-2
     shared-slice-read-table-times
     table-times-requires
-    slice-write-cross
+    slice-write-upper
     slice-write-half
     add-m
     loop-less

@@ -1,4 +1,5 @@
 -- `masking::steps::take_row` meets its contract. Assumes nothing.
+use native.Mathlib.Omega.{arith}
 use borrow.Author.Needs.{needs}
 use denote.Ref.{now}
 use Rattle.masking.proofs.TermsLaws.{backs-right}
@@ -10,10 +11,36 @@ half-row-requires : tie.Need-half-row-requires
 half-row-requires c κs = search needs
 
 back-row-requires : tie.Need-back-row-requires
-back-row-requires c κs = search needs
+back-row-requires c κs =
+    let half = c .before .before .before .before in
+    let p = half .before .before .before .before .before .before .before .before .before .before .before .before .before .before .before .pre in
+    let f = p .0 in
+    let r = p .1 in (
+      record {
+        few = f .few;
+        left = f .left;
+        right = f .right;
+        reads = omega (arith, r .halves, half .half .given);
+        multiplies = r .lowers;
+        takes = r .backs;
+      },
+      p .3,
+    )
 
 sum-row-requires : tie.Need-sum-row-requires
-sum-row-requires c κs = search needs
+sum-row-requires c κs =
+    let back = c .before .before .before .before in
+    let c₁₅ = back .before .before .before .before .before .before .before .before .before .before .before in
+    let p = c₁₅ .before .before .before .before .before .before .before .before .before .before .before .before .pre in
+    let f = p .0 in
+    record {
+      some = f .some;
+      few = f .few;
+      drawn = f .drawn;
+      backs = omega (arith, p .1 .backs, back .back .given);
+      owns = p .2;
+      summed = f .summed;
+    }
 
 same-length : tie.Need-same-length
 same-length c = search needs

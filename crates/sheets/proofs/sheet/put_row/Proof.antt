@@ -14,11 +14,11 @@ use Rattle.sheets.proofs.sheet.put_row.Statement.{statement}
 use Rattle.sheets.proofs.sheet.put_row.Tie as tie
 
 abbrev Inv-loop : tie.InvT-loop
-Inv-loop w tape cross half crossed back out₀ m₀ out m =
-    (m ≤ w) × (out ≡ front (five-rows tape cross half crossed back m) out₀) × (length out ≡ length out₀)
+Inv-loop w tape upper half lower back out₀ m₀ out m =
+    (m ≤ w) × (out ≡ front (five-rows tape upper half lower back m) out₀) × (length out ≡ length out₀)
 
 abbrev μ-loop : tie.MeasureT-loop
-μ-loop w tape cross half crossed back out₀ m₀ out m = w - m
+μ-loop w tape upper half lower back out₀ m₀ out m = w - m
 
 loop-holds : tie.Need-loop-holds Inv-loop μ-loop
 unfolding five-rows front runs
@@ -68,10 +68,10 @@ loop-again c =
     let c₁₀ = c₉ .before in
     let l = c₁₀ .loop in
     let s = c₁₀ .before .before .before .before .before .before .before .args in
-    let e = length-five-rows (now (s .tape)) (now (s .cross)) (now (s .half)) (now (s .crossed)) (now (s .back)) (l .m) in (
+    let e = length-five-rows (now (s .tape)) (now (s .upper)) (now (s .half)) (now (s .lower)) (now (s .back)) (l .m) in (
       omega (arith, c₉),
       front-part _ _ _ _ _ _ _ (l .inv .1) e (omega (arith, e, c₉)) (c₂ .put-pair .ensures)
-          (five-rows-more (now (s .tape)) (now (s .cross)) (now (s .half)) (now (s .crossed)) (now (s .back)) (l .m)),
+          (five-rows-more (now (s .tape)) (now (s .upper)) (now (s .half)) (now (s .lower)) (now (s .back)) (l .m)),
       c .before .out .given .1 ∙ l .inv .2,
     )
 

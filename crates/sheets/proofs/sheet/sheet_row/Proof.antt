@@ -32,7 +32,7 @@ take-row-requires c κs =
     let p = s .pre in
     let f = p .0 in
     let e : s .args .w ≤ 8 = omega (arith, f .few) in
-    (f .some, f .few, f .left, f .right, f .drawn, e, e, e, e, e, f .summed, p .3)
+    (f, record { uppers = e; halves = e; lowers = e; backs = e }, e, p .3)
 
 slice-aggregate-put-row : tie.Need-slice-aggregate-put-row
 slice-aggregate-put-row c = search needs

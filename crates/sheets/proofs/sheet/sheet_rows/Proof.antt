@@ -8,7 +8,8 @@ use borrow.Author.Needs.{needs}
 use denote.Ref.{now}
 use lib.ListN.{length, drop}
 use Rattle.xor.specs.Lists.{runs}
-use Rattle.isw.specs.Place.{before-row, product-need}
+use Rattle.xor.specs.Pairs.{before-row}
+use Rattle.isw.specs.Place.{product-need}
 use Rattle.shares.specs.Writes.{front}
 use Rattle.shares.proofs.WriteLaws.{part-rest}
 use Rattle.sheets.specs.Parts.{pairs-before}
@@ -87,14 +88,13 @@ sheet-row-requires c κs =
     let l = c₅ .loop in
     let v = s .args in
     let p = s .pre in
-    let f = p .0 in
     let h = c₄ .loop-test .taken in
     let a = now (v .a) in
     let b = now (v .b) in
     let ts = now (v .tape) in
-    let r = row-fits (v .d) (l .i) (l .drawn) h (l .inv .1) a b ts (l .sums) (f .order) (f .left) (f .right) (f .drawn) (l .inv .5) in
+    let r = row-fits (v .d) (l .i) (l .drawn) h (l .inv .1) a b ts (l .sums) (p .0) (l .inv .5) in
     let o = row-room (v .d) (l .i) (l .drawn) h (l .inv .1) (now (v .out)) (l .out) (p .3) (l .inv .4) in
-    (record { some = r .0; few = r .1; left = r .2; right = r .3; drawn = r .4; summed = r .5 }, l .inv .6, o .1, p .4)
+    (r, l .inv .6, o .1, p .4)
 
 add-drawn : tie.Need-add-drawn Inv-loop μ-loop
 add-drawn c =

@@ -1,5 +1,4 @@
 -- `state::substitution::sub_four` meets its contract. Assumes nothing.
--- `state::substitution::sub_four` meets its contract. Assumes nothing.
 use mathlib.Core.Path.{_≡_}
 use Prim.Native.Nat.{_+_, _*_, _≤_, _-_}
 use native.Mathlib.Omega.{arith}
@@ -8,28 +7,36 @@ use denote.Ref.{now}
 use Rattle.shares.proofs.WriteLaws.{length-part-rest}
 use Rattle.cipher.proofs.CipherLaws.{sub-at-shared}
 use Rattle.state.proofs.BufferLaws.{Buffered, buffered-start, buffered-room, buffered-more, buffered-taken, buffered-done}
-use Rattle.state.proofs.SubLaws.{spaced-within, four-boxes}
+use Rattle.state.proofs.SubLaws.{spaced-within, spaced-count, four-boxes}
 use Rattle.state.proofs.substitution.sub_four.Statement.{statement}
 use Rattle.state.proofs.substitution.sub_four.Tie as tie
 
 abbrev Inv-loop : tie.InvT-loop
-Inv-loop logs antilogs which d l first stride tape s₀ at₀ m₀ s at m = (m ≤ 4) × Buffered (four-boxes which d first stride) 0 d l tape s₀ m at s
+Inv-loop logs antilogs which d l first stride tape s₀ at₀ n m₀ s at m =
+    (n ≡ 4) × (m ≤ 4) × Buffered (four-boxes which d first stride) 0 d l tape s₀ m at s
 
 abbrev μ-loop : tie.MeasureT-loop
-μ-loop logs antilogs which d l first stride tape s₀ at₀ m₀ s at m = 4 - m
+μ-loop logs antilogs which d l first stride tape s₀ at₀ n m₀ s at m = 4 - m
+
+div-n : tie.Need-div-n Inv-loop μ-loop
+div-n c = search needs
 
 loop-holds : tie.Need-loop-holds Inv-loop μ-loop
-loop-holds c = (omega arith, buffered-start _ 0 _ _ _ _ (c .before .before .pre .0 .long))
+loop-holds c =
+    let start = c .before .before in
+    let fits = start .pre .0 in
+    let n = spaced-count (start .args .first) (start .args .stride) (start .args .l) (fits .quarter) (fits .place) in
+    (n, omega arith, buffered-start _ 0 _ _ _ _ (fits .long))
 
 mul-k : tie.Need-mul-k Inv-loop μ-loop
 mul-k c =
     let a = c .before .before .before .before .args in
-    omega (arith, spaced-within (a .first) (a .stride) (c .before .loop .m) (a .l) (omega arith) (omega arith))
+    omega (arith, spaced-within (a .first) (a .stride) (c .before .loop .m) (a .l) (omega arith) (omega arith) (omega arith))
 
 add-k : tie.Need-add-k Inv-loop μ-loop
 add-k c =
     let a = c .before .before .before .before .args in
-    omega (arith, spaced-within (a .first) (a .stride) (c .before .loop .m) (a .l) (omega arith) (omega arith))
+    omega (arith, spaced-within (a .first) (a .stride) (c .before .loop .m) (a .l) (omega arith) (omega arith) (omega arith))
 
 sub-sub-place : tie.Need-sub-sub-place Inv-loop μ-loop
 unfolding four-boxes
@@ -49,11 +56,11 @@ sub-place-requires c κs =
     let start = loop .before .before .before in
     let a = start .args in
     let l = loop .loop in
-    let room = buffered-room (l .inv .1) (omega arith) in (
+    let room = buffered-room (l .inv .2) (omega arith) in (
       record {
         order = start .pre .0 .order;
-        place = spaced-within (a .first) (a .stride) (l .m) (a .l) (omega arith) (omega arith);
-        long = l .inv .1 .long;
+        place = spaced-within (a .first) (a .stride) (l .m) (a .l) (omega arith) (omega arith) (omega arith);
+        long = l .inv .2 .long;
         drawn = omega (arith, room, length-part-rest (now (a .tape)) (l .at));
       },
       search needs,
@@ -65,7 +72,7 @@ add-at c =
     let call = c .before .before in
     let loop = call .before .before .before .before in
     let start = loop .before .before .before in
-    let room = buffered-room (loop .loop .inv .1) (omega arith) in
+    let room = buffered-room (loop .loop .inv .2) (omega arith) in
     omega (arith, call .sub-place .ensures .0, room, start .good, start .pre .0 .drawn)
 
 add-m : tie.Need-add-m Inv-loop μ-loop
@@ -82,8 +89,11 @@ loop-again c =
     let a = loop .before .before .before .args in
     let l = loop .loop in
     let p = call .sub-place in
-    let k = a .first + l .m * a .stride in
-    (omega arith, buffered-more (l .inv .1) (p .result) _ (omega arith) (λ ss ts. sub-at-shared (a .which) k ts) (p .ensures .0) (p .ensures .1))
+    let k = a .first + l .m * a .stride in (
+      l .inv .0,
+      omega arith,
+      buffered-more (l .inv .2) (p .result) _ (omega arith) (λ ss ts. sub-at-shared (a .which) k ts) (p .ensures .0) (p .ensures .1),
+    )
 
 same-length : tie.Need-same-length Inv-loop μ-loop
 same-length c = search needs
@@ -93,7 +103,7 @@ unfolding four-boxes
 returns c =
     let l = c .before .loop in
     let e : l .m ≡ 4 = omega arith in
-    (buffered-taken (l .inv .1) e, buffered-done (l .inv .1) e)
+    (buffered-taken (l .inv .2) e, buffered-done (l .inv .2) e)
 
 pub sub-four-spec : {M : Type 1} → statement M
 sub-four-spec =
@@ -101,6 +111,7 @@ sub-four-spec =
     (tie.spec
     Inv-loop
     μ-loop
+    div-n
     loop-holds
     mul-k
     add-k

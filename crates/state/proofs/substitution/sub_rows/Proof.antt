@@ -41,7 +41,8 @@ sub-four-requires c κs =
     let room = buffered-room (l .inv .1) (omega arith) in (
       record {
         order = start .pre .0;
-        places = omega arith;
+        quarter = omega arith;
+        place = omega arith;
         small = omega arith;
         long = l .inv .1 .long;
         drawn = omega (arith, room, start .pre .2, length-part-rest (now (start .args .tape)) (l .at));
