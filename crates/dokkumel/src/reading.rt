@@ -58,7 +58,7 @@ fn run_in(
     output: &mut [u8],
 ) {
     if fill(list) {
-        let a = sheets::read_places(order, left, right, tape, list, output);
+        let a = readings::read_places(order, left, right, tape, list, output);
         answers::print(a, output);
     }
 }

@@ -1,7 +1,8 @@
 // The masked product, its sheet and the reading of places, for C.
 ghost use mathlib.Core.Path.{_≡_};
 ghost use Rattle.masking.specs.Calls.{Product-outcome};
-ghost use Rattle.sheets.specs.Calls.{Sheet-outcome, Reading-outcome};
+ghost use Rattle.sheets.specs.Calls.{Sheet-outcome};
+ghost use Rattle.readings.specs.Calls.{Reading-outcome};
 ghost use Rattle.dokkumel_c.specs.Returned.{gives, returned};
 
 #[no_mangle]
@@ -50,6 +51,6 @@ pub extern "C" fn dokkumel_read_places(
         ≡ returned (Reading-outcome order (now (left .entry)) (now (right .entry)) (now (tape .entry)) (now (list .entry))
         (now (output .entry))) (now (taken .entry)) ⌝ }
 {
-    let answer = sheets::read_places(order, left, right, tape, list, output);
+    let answer = readings::read_places(order, left, right, tape, list, output);
     crate::status::returned(answer, taken)
 }

@@ -1,6 +1,2 @@
 pub mod PartsLaws
 pub mod SheetParts
-pub mod CallsLaws
-pub mod ReadingLaws
-pub mod Hiding
-pub mod Places

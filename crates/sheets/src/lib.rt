@@ -1,12 +1,10 @@
-// The sheet of a masked product, which holds its intermediate bytes, and the reading of listed places.
-// Document 01 decides; specs/Calls.antt has the outcome of each public routine on every input.
+// The sheet of a masked product, which holds its intermediate bytes. Document 01 decides; specs/Calls.antt has the outcome of the public routine on
+// every input.
 //
-// The routines of document 01 stand at the root, and ask nothing of a caller. What stands in the modules besides serves the crates above;
+// The routine of document 01 stands at the root, and asks nothing of a caller. What stands in the modules besides serves the crates above;
 // where it has a `requires`, its callers prove it.
-pub mod reading;
 pub mod sheet;
 
-pub use reading::read_places;
 pub use sheet::product_sheet;
 
 // The bytes of one pair of shares i < j, in the order of their places.

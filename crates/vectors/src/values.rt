@@ -53,7 +53,7 @@ fn read_listed(line: &[u8], list: &[u16], output: &mut [u8]) -> Came {
     let end = lines::bytes(line, 4, &mut both);
     let middle = end / 2;
     let b = &both[..];
-    answers::of(sheets::read_places(
+    answers::of(readings::read_places(
         lines::number(line, 2),
         &b[0..middle],
         &b[middle..end],

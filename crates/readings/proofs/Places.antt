@@ -11,7 +11,8 @@ use Rattle.shares.specs.declared.Count.{Count}
 use Rattle.shares.specs.Outcome.{done, took}
 use Rattle.shares.proofs.OutcomeLaws.{settled-taken}
 use Rattle.masking.specs.Calls.{Product-outcome}
-use Rattle.sheets.specs.Calls.{Sheet-outcome, Reading-outcome}
+use Rattle.sheets.specs.Calls.{Sheet-outcome}
+use Rattle.readings.specs.Calls.{Reading-outcome}
 
 module _ (d : ℕ) (a b ts : List ℕ) where
   -- the sheet: the byte at each place, in their order

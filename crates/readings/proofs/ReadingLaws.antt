@@ -19,7 +19,8 @@ use Rattle.shares.specs.declared.Answer.the-variants.{Taken, Refused}
 use Rattle.shares.specs.Outcome.{done, outcome, Test, took, answered, settled, served, reaches}
 use Rattle.shares.proofs.OutcomeLaws.{Passed, _and_, answered-next, answered-taken, outcome-answer, settled-refused, settled-done, settled-taken}
 use Rattle.masking.specs.Calls.{two-fit, Factor-tests}
-use Rattle.sheets.specs.Calls.{all-below, Sheet-outcome, Listed-tests, Reading-tests, Reading-outcome}
+use Rattle.sheets.specs.Calls.{Sheet-outcome}
+use Rattle.readings.specs.Calls.{all-below, Listed-tests, Reading-tests, Reading-outcome}
 
 -- both factors have n shares
 pub two-fit-both : (d a b : ℕ) → a ≡ suc d → b ≡ suc d → two-fit d a b ≡ true

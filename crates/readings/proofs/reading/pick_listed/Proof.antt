@@ -1,4 +1,4 @@
--- `sheets::reading::pick_listed` meets its contract. Assumes nothing.
+-- `readings::reading::pick_listed` meets its contract. Assumes nothing.
 use mathlib.Core.Path.{_≡_, refl, _∙_}
 use Prim.Native.Nat.{_≤_, _-_}
 use native.Mathlib.Omega.{arith}
@@ -7,9 +7,9 @@ use denote.Ref.{now}
 use lib.ListN.{length, length-set}
 use Rattle.xor.specs.Lists.{at}
 use Rattle.shares.proofs.WriteLaws.{over, over-none, over-more, over-all}
-use Rattle.sheets.proofs.CallsLaws.{all-below-at, listed-tab}
-use Rattle.sheets.proofs.reading.pick_listed.Statement.{statement}
-use Rattle.sheets.proofs.reading.pick_listed.Tie as tie
+use Rattle.readings.proofs.CallsLaws.{all-below-at, listed-tab}
+use Rattle.readings.proofs.reading.pick_listed.Statement.{statement}
+use Rattle.readings.proofs.reading.pick_listed.Tie as tie
 
 abbrev Inv-loop : tie.InvT-loop
 Inv-loop sheet list output₀ k₀ k-end output k =

@@ -4,8 +4,8 @@ ghost use mathlib.Core.Bool.{true};
 ghost use lib.ListN.{length};
 ghost use Rattle.isw.specs.Place as Place;
 ghost use Rattle.shares.specs.Outcome.{outcome, answered, served};
-ghost use Rattle.sheets.specs.Calls as Calls;
-ghost use Rattle.sheets.specs.Calls.{Listed-tests, Reading-outcome};
+ghost use Rattle.readings.specs.Calls as Calls;
+ghost use Rattle.readings.specs.Calls.{Listed-tests, Reading-outcome};
 use shares::Answer;
 use shares::Count;
 use shares::Refusal;
@@ -65,7 +65,7 @@ fn read_with(
     ensures { λ r. ⌜ outcome r (now (output .exit))
         ≡ Reading-outcome order (now (left .entry)) (now (right .entry)) (now (tape .entry)) (now (list .entry)) (now (output .entry)) ⌝ }
 {
-    let made = crate::sheet::product_sheet(order, left, right, tape, sheet);
+    let made = sheets::product_sheet(order, left, right, tape, sheet);
     let Answer::Taken(count) = made else {
         return made;
     };
@@ -90,6 +90,6 @@ pub fn read_places(
         ≡ Reading-outcome order (now (left .entry)) (now (right .entry)) (now (tape .entry)) (now (list .entry)) (now (output .entry)) ⌝ }
 {
     let mut sheet = [0u8; 279];
-    let size = crate::sheet::sheet_size(order);
+    let size = sheets::sheet::sheet_size(order);
     read_with(order, left, right, tape, list, &mut sheet[0..size], output)
 }

@@ -21,8 +21,8 @@ use Rattle.isw.proofs.Document03Laws.{hides-document03}
 use Rattle.shares.specs.Outcome as Outcome
 use Rattle.shares.specs.Outcome.{took, served}
 use Rattle.shares.proofs.OutcomeLaws.{all, _and_, settled-passed, le-reaches}
-use Rattle.sheets.specs.Calls.{all-below, Reading-outcome}
-use Rattle.sheets.proofs.ReadingLaws.{two-fit-both}
+use Rattle.readings.specs.Calls.{all-below, Reading-outcome}
+use Rattle.readings.proofs.ReadingLaws.{two-fit-both}
 
 -- THE HIDING RULE for the field's product, at every order
 pub bytes-hide : Hides times 8

@@ -1,9 +1,9 @@
--- `sheets::reading::read_with` meets its contract. Assumes nothing.
+-- `readings::reading::read_with` meets its contract. Assumes nothing.
 use borrow.Author.Needs.{needs}
 use denote.Ref.{now}
-use Rattle.sheets.proofs.ReadingLaws.{reading-handed, reading-refused, reading-fits, reading-done}
-use Rattle.sheets.proofs.reading.read_with.Statement.{statement}
-use Rattle.sheets.proofs.reading.read_with.Tie as tie
+use Rattle.readings.proofs.ReadingLaws.{reading-handed, reading-refused, reading-fits, reading-done}
+use Rattle.readings.proofs.reading.read_with.Statement.{statement}
+use Rattle.readings.proofs.reading.read_with.Tie as tie
 
 product-sheet-requires : tie.Need-product-sheet-requires
 product-sheet-requires c κs = search needs

@@ -1,9 +1,9 @@
--- `sheets::reading::read_places` meets its contract. Assumes nothing.
+-- `readings::reading::read_places` meets its contract. Assumes nothing.
 use mathlib.Core.Path.{_∙_}
 use borrow.Author.Needs.{needs}
 use Rattle.shares.proofs.WriteLaws.{length-part-first}
-use Rattle.sheets.proofs.reading.read_places.Statement.{statement}
-use Rattle.sheets.proofs.reading.read_places.Tie as tie
+use Rattle.readings.proofs.reading.read_places.Statement.{statement}
+use Rattle.readings.proofs.reading.read_places.Tie as tie
 
 sheet-size-requires : tie.Need-sheet-size-requires
 sheet-size-requires c κs = search needs

@@ -1,9 +1,9 @@
--- `sheets::reading::listed_answer` meets its contract. Assumes nothing.
+-- `readings::reading::listed_answer` meets its contract. Assumes nothing.
 use borrow.Author.Tests.{eq-eqb, ne-eqb}
 use Rattle.xor.proofs.Tests.{not-true, not-false}
 use Rattle.shares.proofs.OutcomeLaws.{answered-here, answered-next, answered-none, lt-reaches, le-reaches}
-use Rattle.sheets.proofs.reading.listed_answer.Statement.{statement}
-use Rattle.sheets.proofs.reading.listed_answer.Tie as tie
+use Rattle.readings.proofs.reading.listed_answer.Statement.{statement}
+use Rattle.readings.proofs.reading.listed_answer.Tie as tie
 
 returns : tie.Need-returns
 returns c = answered-here _ _ _ _ (ne-eqb _ _ (c .if1 .taken))

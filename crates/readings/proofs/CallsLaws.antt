@@ -12,7 +12,7 @@ use Rattle.xor.specs.Lists.{at, tab}
 use Rattle.xor.proofs.Tests.{and-true, and-assoc, and-end, and-out}
 use Rattle.xor.proofs.ListsLaws.{map-tab, tab-at}
 use Rattle.isw.specs.Place.{listed}
-use Rattle.sheets.specs.Calls.{all-below}
+use Rattle.readings.specs.Calls.{all-below}
 
 -- ---- every listed place is below m
 

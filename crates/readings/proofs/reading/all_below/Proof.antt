@@ -1,4 +1,4 @@
--- `sheets::reading::all_below` meets its contract. Assumes nothing.
+-- `readings::reading::all_below` meets its contract. Assumes nothing.
 use mathlib.Core.Path.{_≡_, refl, ap, _∙_}
 use mathlib.Core.Logic.{⊎-elim}
 use Prim.Native.Nat.{_≤_, _-_}
@@ -7,10 +7,10 @@ use borrow.Author.Needs.{needs}
 use denote.Ref.{now}
 use lib.ListN.{length, take}
 use lib.Seq.{take-length}
-use Rattle.sheets.proofs.CallsLaws.{all-below-kept, all-below-lost}
-use Rattle.sheets.specs.Calls as Calls
-use Rattle.sheets.proofs.reading.all_below.Statement.{statement}
-use Rattle.sheets.proofs.reading.all_below.Tie as tie
+use Rattle.readings.proofs.CallsLaws.{all-below-kept, all-below-lost}
+use Rattle.readings.specs.Calls as Calls
+use Rattle.readings.proofs.reading.all_below.Statement.{statement}
+use Rattle.readings.proofs.reading.all_below.Tie as tie
 
 abbrev Inv-loop : tie.InvT-loop
 Inv-loop size list ok₀ k₀ k-end ok k = (k ≤ k-end) × (k-end ≡ length list) × (ok ≡ Calls.all-below size (take k list))

@@ -1,0 +1,4 @@
+pub mod CallsLaws
+pub mod ReadingLaws
+pub mod Hiding
+pub mod Places
