@@ -21,7 +21,8 @@ use Rattle.shares.proofs.LengthsLaws.{share-length-16}
 use Rattle.shares.proofs.StringsLaws.{shares-of, laid-length}
 use Rattle.cipher.specs.Fips197.{rounds, key-expansion, cipher-with, cipher, inv-cipher}
 use Rattle.cipher.specs.Cipher.{schedule-need, prepared-laid, encrypted-with-need, encrypted-with-laid, cipher-need, encrypted-laid, decrypted-laid}
-use Rattle.cipher.proofs.Accuracy.{schedule-shared, encrypted-with-shared, encrypted-shared, decrypted-shared, prepared-joins-laid, encrypted-with-joins-laid, cipher-joins-laid, inv-cipher-joins-laid, encrypted-from-prepared}
+use Rattle.cipher.proofs.Accuracy.{schedule-shared, encrypted-with-shared, encrypted-shared, decrypted-shared, prepared-joins-laid}
+use Rattle.cipher.proofs.Accuracy.{encrypted-with-joins-laid, cipher-joins-laid, inv-cipher-joins-laid, encrypted-from-prepared}
 use Rattle.lengths.specs.Previews.{Keyed, Block-tests}
 use Rattle.lengths.proofs.PreviewsLaws.{block-passed, preparation-passed}
 use Rattle.lengths.specs.Lengths.{key-words, prepared-length, prepared-words}
@@ -60,7 +61,8 @@ length-laid-of Forward nk d k x ts h lk lx = laid-length (encrypted-shared nk ts
 length-laid-of Inverse nk d k x ts h lk lx = laid-length (decrypted-shared nk ts h (shares-of d (4 * nk) k lk) (shares-of d 16 x lx))
 
 laid-of-joins : (w : Direction) (nk d : ℕ) (k x ts : List ℕ) → 1 ≤ nk → length k ≡ suc d * (4 * nk) → length x ≡ suc d * 16
-    → joined-string (parts (suc d) 16 (laid-of w nk d k x ts)) ≡ cipher-of w nk (joined-string (parts (suc d) (4 * nk) k)) (joined-string (parts (suc d) 16 x))
+    → joined-string (parts (suc d) 16 (laid-of w nk d k x ts))
+    ≡ cipher-of w nk (joined-string (parts (suc d) (4 * nk) k)) (joined-string (parts (suc d) 16 x))
 laid-of-joins Forward = cipher-joins-laid
 laid-of-joins Inverse = inv-cipher-joins-laid
 
@@ -77,7 +79,8 @@ pub record Carried (w : Direction) (d : ℕ) (j : Count) (k x shares : List ℕ)
   pub long : length shares ≡ suc d * 16
   pub joins : joined-string (parts (suc d) 16 shares) ≡ cipher-of w (key-words d (length k)) (key-joined d k) (joined-string (parts (suc d) 16 x))
 
-pub single-carried : (w : Direction) (d : ℕ) (j : Count) (k x ts o shares : List ℕ) → Single-outcome w d k x ts o ≡ done j shares → Carried w d j k x shares
+pub single-carried : (w : Direction) (d : ℕ) (j : Count) (k x ts o shares : List ℕ) → Single-outcome w d k x ts o ≡ done j shares
+    → Carried w d j k x shares
 single-carried w d j k x ts o shares e =
     let nk = key-words d (length k) in
     let g = settled-taken _ _ o (laid-of w nk d k x ts) j shares (single-is w d k x ts o ∙ e) in
@@ -118,12 +121,16 @@ prepare-joins d j k ts o keys e =
     let nk = key-words d (length k) in
     let g = settled-taken _ _ o (prepared-laid nk d k ts) j keys e in
     let some = preparation-passed d (length k) (length ts) (length o) (g .0) .some in
-    ap (λ (s : List ℕ). joined-string (parts (suc d) (16 * suc (rounds nk)) s)) (g .2) ∙ prepared-joins-laid nk d k ts some (key-length d (length k) some)
+    ap (λ (s : List ℕ). joined-string (parts (suc d) (16 * suc (rounds nk)) s)) (g .2)
+    ∙ prepared-joins-laid nk d k ts some (key-length d (length k) some)
 
 -- whatever bytes were prepared, `join` makes of what `encrypt_prepared` puts out FIPS 197's rounds with what they join to as round keys
-pub encrypt-prepared-then-join : (d : ℕ) (j : Count) (ks x ts o shares p : List ℕ) → Encrypt-prepared-outcome d ks x ts o ≡ done j shares → length p ≡ 16
+pub encrypt-prepared-then-join : (d : ℕ) (j : Count) (ks x ts o shares p : List ℕ)
+    → Encrypt-prepared-outcome d ks x ts o ≡ done j shares → length p ≡ 16
     → Join-outcome d shares p
-    ≡ done (took 0) (cipher-with (prepared-words d (length ks)) (joined-string (parts (suc d) (16 * suc (rounds (prepared-words d (length ks)))) ks)) (joined-string (parts (suc d) 16 x)))
+    ≡ done (took 0)
+    (cipher-with (prepared-words d (length ks)) (joined-string (parts (suc d) (16 * suc (rounds (prepared-words d (length ks)))) ks))
+    (joined-string (parts (suc d) 16 x)))
 unfolding Encrypt-prepared-outcome prepared-length
 encrypt-prepared-then-join d j ks x ts o shares p e h =
     let nk = prepared-words d (length ks) in
@@ -150,8 +157,12 @@ block-after n nk d x t o need q made h = rw short (go (served d) (ltb 0 nk) (eqb
         decide false e = let l = ltb-false (t - n) need e in le-ltb t (n + need) (omega arith)
 
     go : (u y i r e : Bool)
-        → ended (cond u (cond y (cond i (cond r (cond e (Taken (took (n + need))) (Refused Tape)) (Refused Output)) (Refused Input)) (Refused Key)) (Refused Order)) q made
-        ≡ after n (ended (cond u (cond y (cond i (cond r (cond e (Taken (took need)) (Refused Tape)) (Refused Output)) (Refused Input)) (Refused Key)) (Refused Order)) q made)
+        → ended (cond u
+        (cond y (cond i (cond r (cond e (Taken (took (n + need))) (Refused Tape)) (Refused Output)) (Refused Input)) (Refused Key)) (Refused Order)) q
+        made
+        ≡ after n (ended
+        (cond u (cond y (cond i (cond r (cond e (Taken (took need)) (Refused Tape)) (Refused Output)) (Refused Input)) (Refused Key)) (Refused Order))
+        q made)
     go false y i r e = refl
     go true false i r e = refl
     go true true false r e = refl
@@ -172,20 +183,25 @@ prepare-then-encrypt d n k x ts o keys out e =
     let words : prepared-words d (length keys) ≡ nk =
     ap (prepared-words d) (ap length (g .2) ∙ length-prepared nk d k ts (t .some) lk) ∙ prepared-words-of d (key-sized d (length k) (t .some)) in
     let made : encrypted-laid nk d k x ts ≡ encrypted-with-laid nk d keys x (drop (n .taken) ts) =
-    sym (encrypted-from-prepared nk d k x ts (t .some) lk) ∙ ap₂ (λ (ks : List ℕ) (m : ℕ). encrypted-with-laid nk d ks x (drop m ts)) (sym (g .2)) (sym count) in
+    sym (encrypted-from-prepared nk d k x ts (t .some) lk)
+    ∙ ap₂ (λ (ks : List ℕ) (m : ℕ). encrypted-with-laid nk d ks x (drop m ts)) (sym (g .2)) (sym count) in
     ap₂
-    (λ (m : ℕ) (q : List ℕ). settled (Keyed d nk (Block-tests (m + encrypted-with-need nk d) d (length x) (length ts) (length out))) (took (m + encrypted-with-need nk d)) out q)
+    (λ (m : ℕ) (q : List ℕ). settled (Keyed d nk (Block-tests (m + encrypted-with-need nk d) d (length x) (length ts) (length out)))
+    (took (m + encrypted-with-need nk d)) out q)
     (sym count)
     made
-    ∙ block-after (n .taken) nk d (length x) (length ts) (length out) (encrypted-with-need nk d) out (encrypted-with-laid nk d keys x (drop (n .taken) ts)) (omega (arith, t .drawn))
+    ∙ block-after (n .taken) nk d (length x) (length ts) (length out) (encrypted-with-need nk d) out
+    (encrypted-with-laid nk d keys x (drop (n .taken) ts)) (omega (arith, t .drawn))
     ∙ ap (after (n .taken))
     (ap₂
-    (λ (l m : ℕ). settled (Keyed d m (Block-tests (encrypted-with-need m d) d (length x) l (length out))) (took (encrypted-with-need m d)) out (encrypted-with-laid m d keys x (drop (n .taken) ts)))
+    (λ (l m : ℕ). settled (Keyed d m (Block-tests (encrypted-with-need m d) d (length x) l (length out))) (took (encrypted-with-need m d)) out
+    (encrypted-with-laid m d keys x (drop (n .taken) ts)))
     (sym (length-drop (n .taken) ts))
     (sym words))
 
 -- where the single call is carried through, so is the preparation, into a buffer of the right length
-pub encrypt-prepares : (d : ℕ) (j : Count) (k x ts out shares o : List ℕ) → Encrypt-outcome d k x ts out ≡ done j shares → length o ≡ prepared-length (key-words d (length k)) d
+pub encrypt-prepares : (d : ℕ) (j : Count) (k x ts out shares o : List ℕ) → Encrypt-outcome d k x ts out ≡ done j shares
+    → length o ≡ prepared-length (key-words d (length k)) d
     → Prepare-outcome d k ts o ≡ done (took (schedule-need (key-words d (length k)) d)) (prepared-laid (key-words d (length k)) d k ts)
 unfolding Encrypt-outcome Prepare-outcome cipher-need
 encrypt-prepares d j k x ts out shares o e h =
@@ -193,4 +209,6 @@ encrypt-prepares d j k x ts out shares o e h =
     let g = settled-taken _ _ out (encrypted-laid nk d k x ts) j shares e in
     let t = block-passed nk (schedule-need nk d + encrypted-with-need nk d) d (length x) (length ts) (length out) (g .0) in
     let fits : schedule-need nk d ≤ length ts = omega (arith, t .drawn) in
-    settled-passed _ o _ (t .served-order and lt-ltb 0 nk (t .some) and eq-eqb (length o) (prepared-length nk d) h and le-reaches (length ts) (schedule-need nk d) fits and all)
+    settled-passed _ o _
+    (t .served-order and lt-ltb 0 nk (t .some) and eq-eqb (length o) (prepared-length nk d) h and le-reaches (length ts)
+    (schedule-need nk d) fits and all)

@@ -11,7 +11,8 @@ use Rattle.shares.specs.Strings.{Shares, parts, laid}
 use Rattle.shares.proofs.StringsLaws.{shared-parts, parts-laid}
 use Rattle.shares.proofs.WriteLaws.{part-rest}
 use Rattle.cipher.specs.Fips197.{rounds}
-use Rattle.cipher.specs.Cipher.{schedule, schedule-need, prepared-laid, encrypted-with, encrypted-with-laid, cipher-need, encrypted, encrypted-laid, decrypted, decrypted-laid}
+use Rattle.cipher.specs.Cipher.{schedule, schedule-need, prepared-laid, encrypted-with, encrypted-with-laid, cipher-need, encrypted, encrypted-laid}
+use Rattle.cipher.specs.Cipher.{decrypted, decrypted-laid}
 use Rattle.cipher.proofs.Accuracy.{schedule-shared}
 use Rattle.rounds.specs.Directions.{with-of}
 use Rattle.lengths.specs.Lengths.{key-words, prepared-length}
@@ -21,9 +22,9 @@ use Rattle.aes.specs.Directions.{laid-of, Single-outcome}
 
 -- ---- lengths, as the cores count them
 
-pub keys-long : (nk d l : ℕ) → l ≡ prepared-length nk d → l ≡ suc d * (16 * suc (rounds nk))
+pub prepared-keys-length : (nk d l : ℕ) → l ≡ prepared-length nk d → l ≡ suc d * (16 * suc (rounds nk))
 unfolding prepared-length
-keys-long nk d l e = e
+prepared-keys-length nk d l e = e
 
 -- ---- what the cores make, as the outcomes name it
 
@@ -56,7 +57,8 @@ block-made w nk d n k x ts keys q h l e m g =
 -- ---- either single call, by its direction
 
 pub single-is : (w : Direction) (d : ℕ) (k x ts o : List ℕ)
-    → settled (Single-tests d (length k) (length x) (length ts) (length o)) (took (cipher-need (key-words d (length k)) d)) o (laid-of w (key-words d (length k)) d k x ts)
+    → settled (Single-tests d (length k) (length x) (length ts) (length o)) (took (cipher-need (key-words d (length k)) d)) o
+    (laid-of w (key-words d (length k)) d k x ts)
     ≡ Single-outcome w d k x ts o
 unfolding Encrypt-outcome Decrypt-outcome
 single-is Forward d k x ts o = refl

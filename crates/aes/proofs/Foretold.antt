@@ -54,7 +54,8 @@ told a b e = outcome-answer a b [] [] [] (e ∙ unwritten b)
     unwritten (Refused r) = refl
 
 -- what is foretold from lengths goes by lengths
-foretold-by-length : (p : (order key input tape output : ℕ) → Outcome) (c : (order : ℕ) (key input tape output : List ℕ) → Outcome) → Foretells p c → Answers-by-length c
+foretold-by-length : (p : (order key input tape output : ℕ) → Outcome) (c : (order : ℕ) (key input tape output : List ℕ) → Outcome)
+    → Foretells p c → Answers-by-length c
 foretold-by-length p c f d k k′ x x′ ts ts′ o o′ q q′ a a′ lk lx lt lo e e′ =
     told a a′
     (f d k x ts o q a e
@@ -96,7 +97,8 @@ module _ {nk : ℕ} (d t : ℕ) (size : Key-size nk) (is-served : served d ≡ t
   unfolding Encrypt-preview
   encrypt-by-tape =
       rw (key-words-of d size)
-      (settled-past _ _ _ _ _ is-served ∙ settled-past _ _ _ _ _ some ∙ settled-past _ _ _ _ _ block ∙ settled-past _ _ _ _ _ block ∙ by-tape t (cipher-need nk d))
+      (settled-past _ _ _ _ _ is-served ∙ settled-past _ _ _ _ _ some ∙ settled-past _ _ _ _ _ block ∙ settled-past _ _ _ _ _ block
+      ∙ by-tape t (cipher-need nk d))
 
   pub decrypt-by-tape : Decrypt-preview d (suc d * (4 * nk)) (suc d * 16) t (suc d * 16)
       ≡ cond (ltb t (cipher-need nk d)) (refused 5 []) (done (took (cipher-need nk d)) [])

@@ -34,13 +34,15 @@ pub record Same-key (d e : ℕ) (k k′ : List ℕ) : Type 0 where
 joined-long : (d l : ℕ) (bs : List ℕ) → length bs ≡ suc d * l → length (joined-string (parts (suc d) l bs)) ≡ l
 joined-long d l bs h = length-joined (shares-of d l bs h)
 
-module _ (d : ℕ) (j : Count) (k x ts o c : List ℕ) (key-bytes : Below 256 k) (input-bytes : Below 256 x) (carried : Encrypt-outcome d k x ts o ≡ done j c) where
+module _ (d : ℕ) (j : Count) (k x ts o c : List ℕ) (key-bytes : Below 256 k) (input-bytes : Below 256 x)
+    (carried : Encrypt-outcome d k x ts o ≡ done j c) where
   -- the call that encrypted
   went : Carried Forward d j k x c
   went = single-carried Forward d j k x ts o c carried
 
   -- any shares y, at any order, of the ciphertext
-  decrypts : (e : ℕ) (i : Count) (k′ y ts′ o′ p q : List ℕ) → Same-key d e k k′ → joined-string (parts (suc e) 16 y) ≡ joined-string (parts (suc d) 16 c)
+  decrypts : (e : ℕ) (i : Count) (k′ y ts′ o′ p q : List ℕ) → Same-key d e k k′
+      → joined-string (parts (suc e) 16 y) ≡ joined-string (parts (suc d) 16 c)
       → Decrypt-outcome e k′ y ts′ o′ ≡ done i p → length q ≡ 16 → Join-outcome e p q ≡ done (took 0) (joined-string (parts (suc d) 16 x))
   decrypts e i k′ y ts′ o′ p q same of-block back long =
       let nk = key-words d (length k) in

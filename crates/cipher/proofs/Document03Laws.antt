@@ -27,18 +27,22 @@ use Rattle.shares.specs.Refresh.{into, pairs-refreshed, refresh-pairs, refreshe
 use Rattle.shares.specs.Strings.{Shares, Shared}
 use Rattle.shares.proofs.RefreshLaws.{refresh-need-is, length-refreshed}
 use Rattle.shares.proofs.StringsLaws.{shared-parts}
-use Rattle.sbox.specs.Box.{masked-product, stage-z, stage-y, stage-w, stage-v, stage-last, stage-need, power-254, corrected, affine-shares, box, box-need}
+use Rattle.power254.specs.Power254.{masked-product, stage-z, stage-y, stage-w, stage-v, stage-last, stage-need, power-254, power-need}
+use Rattle.sbox.specs.Box.{corrected, affine-shares, box, box-need}
 use Rattle.sbox.proofs.BoxLaws.{length-box-of, box-need-is}
 use Rattle.cipher.specs.Fips197.{Kind, turned, subbed, plain, kind, shift-rows, mix-columns, rot-word, rounds, total-words}
 use Rattle.cipher.specs.States.{column, put, adds, behind}
-use Rattle.cipher.specs.Cipher.{sub-at, subs-of, subs, subs-need, in-word, masked-temp, temp-need, words, masked-word, schedule-from, schedule, schedule-need, by-rows, round-keys, masked-round, masked-last-round, round-need, masked-rounds, encrypted-with, encrypted, cipher-need, encrypted-laid}
+use Rattle.cipher.specs.Cipher.{sub-at, subs-of, subs, subs-need, in-word, masked-temp, temp-need, words, masked-word, schedule-from, schedule}
+use Rattle.cipher.specs.Cipher.{schedule-need, by-rows, round-keys, masked-round, masked-last-round, round-need, masked-rounds, encrypted-with}
+use Rattle.cipher.specs.Cipher.{encrypted, cipher-need, encrypted-laid}
 use Rattle.cipher.specs.Document03 as D
 use Rattle.cipher.proofs.StatesLaws.{column-length, map-shared, put-shared, adds-shared}
 use Rattle.cipher.proofs.FipsLaws.{mix-columns-length, every, in-word-below, by-rows-below}
 use Rattle.cipher.proofs.CipherLaws.{temp-shared, words-shared, next-shared, longer-shared, rows-shared, round-shared, round-keys-shared}
 use Rattle.cipher.proofs.NeedLaws.{schedule-need-4, schedule-need-6, schedule-need-8, counted}
 use Rattle.cipher.proofs.Accuracy.{schedule-shared, encrypted-shared}
-use Rattle.cipher.proofs.TurnedLaws.{bytes, bytes-length, bytes-at, bytes-put, word-turned, round-key-turned, add-turned, append-turned, rotated-turned, shifted-turned, mixed-turned, with-rcon-turned, shared-turned, laid-turned}
+use Rattle.cipher.proofs.TurnedLaws.{bytes, bytes-length, bytes-at, bytes-put, word-turned, round-key-turned, add-turned, append-turned}
+use Rattle.cipher.proofs.TurnedLaws.{rotated-turned, shifted-turned, mixed-turned, with-rcon-turned, shared-turned, laid-turned}
 
 -- ---- the refresh
 
@@ -63,7 +67,8 @@ pairs-refreshed-once x z t ys zs =
 abbrev pair-at : ℕ → ℕ × ℕ
 pair-at k = (0, suc k)
 
-refresh-from-is : (x : ℕ) (zs ts ys : List ℕ) → D.refresh-from x zs ts ys ≡ pairs-refreshed (tab (λ k. pair-at (length ys + k)) (length zs)) (x ∷ (ys ++ zs)) ts
+refresh-from-is : (x : ℕ) (zs ts ys : List ℕ)
+    → D.refresh-from x zs ts ys ≡ pairs-refreshed (tab (λ k. pair-at (length ys + k)) (length zs)) (x ∷ (ys ++ zs)) ts
 unfolding D.refresh-from pairs-refreshed
 refresh-from-is x [] ts ys = unfold tab runs in ap (_∷_ x) (sym (append-nil ys))
 refresh-from-is x (z ∷ zs) ts ys =
@@ -117,7 +122,8 @@ module _ (d : ℕ) where
       let c₅ : 2 * d + 3 * p ≡ n + (n + product-need d) = omega (arith, refresh-need-is d, need-agrees d) in
       let t₃ : drop (2 * d + p) ts ≡ drop r us = from-byte ts c₃ ∙ sym (drop-drop r n ts) in
       let t₄ : drop (2 * d + 2 * p) ts ≡ vs = from-byte ts c₄ ∙ sym (drop-drop n n ts) in
-      let t₅ : drop (2 * d + 3 * p) ts ≡ drop (product-need d) vs = from-byte ts c₅ ∙ sym (drop-drop (product-need d) n us ∙ drop-drop (n + product-need d) n ts) in
+      let t₅ : drop (2 * d + 3 * p) ts ≡ drop (product-need d) vs =
+      from-byte ts c₅ ∙ sym (drop-drop (product-need d) n us ∙ drop-drop (n + product-need d) n ts) in
       let lz : length z ≡ suc d = length-refreshed-map squared x ts l in
       let ly : length y ≡ suc d = length-product times d z x (drop r ts) in
       let lw : length w ≡ suc d = length-refreshed-map fourth y us ly in
@@ -138,7 +144,8 @@ corrected-is : (d : ℕ) (ys : List ℕ) → cond (eqb (suc d % 2) 0) (D.into-fi
 unfolding corrected
 corrected-is d ys =
     let e : suc d % 2 ≡ suc (d % 2) % 2 = omega arith in
-    rw e (digit-cases (λ (c : ℕ). cond (eqb (suc c % 2) 0) (D.into-first 99 ys) ys ≡ corrected constant c ys) refl (into-first-is ys) (d % 2) (mod-lt d two-pos))
+    rw e (digit-cases (λ (c : ℕ). cond (eqb (suc c % 2) 0) (D.into-first 99 ys) ys ≡ corrected constant c ys) refl (into-first-is ys)
+    (d % 2) (mod-lt d two-pos))
 
 -- THE S-BOX, share by share
 pub box-agrees : (d : ℕ) (x ts : List ℕ) → length x ≡ suc d → D.box x ts ≡ box d x ts
@@ -178,12 +185,14 @@ placed : (d : ℕ) → (ks : List ℕ) → D.Shared → (tape : List ℕ) → D.
 placed d [] xs ts = xs
 placed d (k ∷ ks) xs ts = placed d ks (set xs k (D.box (D.sh xs k) ts)) (drop (D.box-tape d) ts)
 
-subs-placed : {l d : ℕ} {ss : Shares} {ks : List ℕ} (ts : List ℕ) → Below l ks → Shared l d ss → placed d ks (bytes l ss) ts ≡ bytes l (subs d ks ss ts)
+subs-placed : {l d : ℕ} {ss : Shares} {ks : List ℕ} (ts : List ℕ) → Below l ks → Shared l d ss
+    → placed d ks (bytes l ss) ts ≡ bytes l (subs d ks ss ts)
 unfolding placed subs-of sub-at
 subs-placed ts done hs = refl
 subs-placed {l} {d} {ss} ts (_&_ {x = k} {xs = ks} h gs) hs =
     let vs = box d (column k ss) ts in
-    let b : D.box (D.sh (bytes l ss) k) ts ≡ vs = ap (λ (x : List ℕ). D.box x ts) (bytes-at l ss k h) ∙ box-agrees d (column k ss) ts (column-length k hs) in
+    let b : D.box (D.sh (bytes l ss) k) ts ≡ vs =
+    ap (λ (x : List ℕ). D.box x ts) (bytes-at l ss k h) ∙ box-agrees d (column k ss) ts (column-length k hs) in
     let s : set (bytes l ss) k vs ≡ bytes l (put ss k vs) = sym (bytes-put k vs h (length-box-of Forward d (column k ss) ts) hs) in
     rw (b, s, box-tape d) (subs-placed (drop (box-need d) ts) gs (put-shared k vs hs))
 
@@ -225,7 +234,8 @@ by-kind-cond true q a b c = refl
 by-kind-cond false true a b c = refl
 by-kind-cond false false a b c = refl
 
-by-kind-in : {A B C : Type 0} (f : A → B → C) (k : Kind) (a b c : A) (r t : B) → by-kind k (f a r) (f b r) (f c t) ≡ f (by-kind k a b c) (by-kind k r r t)
+by-kind-in : {A B C : Type 0} (f : A → B → C) (k : Kind) (a b c : A) (r t : B)
+    → by-kind k (f a r) (f b r) (f c t) ≡ f (by-kind k a b c) (by-kind k r r t)
 by-kind-in f turned a b c r t = refl
 by-kind-in f subbed a b c r t = refl
 by-kind-in f plain a b c r t = refl
@@ -260,7 +270,8 @@ rest-turned d plain ts = refl
 
 module _ {d : ℕ} where
   temp-turned : {ws : Shares} (k : Kind) (j : ℕ) (ts : List ℕ) → Shared 4 d ws
-      → by-kind k (D.with-rcon (D.rcon (j - 1)) (D.rotated (D.boxes d (bytes 4 ws) ts))) (D.boxes d (bytes 4 ws) ts) (bytes 4 ws) ≡ bytes 4 (masked-temp d k j ws ts)
+      → by-kind k (D.with-rcon (D.rcon (j - 1)) (D.rotated (D.boxes d (bytes 4 ws) ts))) (D.boxes d (bytes 4 ws) ts) (bytes 4 ws)
+      ≡ bytes 4 (masked-temp d k j ws ts)
   unfolding masked-temp
   temp-turned {ws} turned j ts hs =
       rw (boxes-turned ts hs, rotated-turned (subs d in-word ws ts)) (with-rcon-turned j (map rot-word (subs d in-word ws ts)))
@@ -275,7 +286,10 @@ module _ {d : ℕ} where
     next-turned {ks} i ts h hs =
         let some = some-words nk size in
         let e : 4 * i + 4 ≡ 4 * suc i = omega arith in
-        rw (word-turned (4 * i) ks (i - nk) (omega arith), add-turned (words-shared (i - nk) (omega arith) hs) (temp-shared (kind nk i) (i / nk) ts (words-shared (i - 1) (omega arith) hs)))
+        rw (
+          word-turned (4 * i) ks (i - nk) (omega arith),
+          add-turned (words-shared (i - nk) (omega arith) hs) (temp-shared (kind nk i) (i / nk) ts (words-shared (i - 1) (omega arith) hs)),
+        )
         (append-turned hs (next-shared nk some i ts h hs) ∙ ap (λ (n : ℕ). bytes n (behind ks (masked-word nk d i ks ts))) e)
 
     expanded-from-turned : {ks : Shares} (left i : ℕ) (ts : List ℕ) → nk ≤ i → Shared (4 * i) d ks
@@ -298,7 +312,8 @@ module _ {d : ℕ} where
         ∙ expanded-from-turned left (suc i) rest (omega arith) (longer-shared nk some i ts h hs)
         ∙ ap (λ (n : ℕ). bytes n (schedule-from left (suc i) nk d next rest)) e)
 
-    expanded-turned : {k : Shares} (ts : List ℕ) → Shared (4 * nk) d k → D.expanded nk d (bytes (4 * nk) k) ts ≡ bytes (16 * suc (rounds nk)) (schedule nk d k ts)
+    expanded-turned : {k : Shares} (ts : List ℕ) → Shared (4 * nk) d k
+        → D.expanded nk d (bytes (4 * nk) k) ts ≡ bytes (16 * suc (rounds nk)) (schedule nk d k ts)
     unfolding D.expanded D.rounds schedule rounds total-words
     expanded-turned {k} ts hs =
         let e : 4 * (nk + (4 * suc (nk + 6) - nk)) ≡ 16 * suc (nk + 6) = omega arith in
@@ -312,14 +327,16 @@ unfolding subs-need
 round-need-is d = omega (arith, box-tape d)
 
 module _ {d : ℕ} where
-  rows-turned : {s : Shares} (ts : List ℕ) → Shared 16 d s → D.shifted (D.substituted d (bytes 16 s) ts) ≡ bytes 16 (map shift-rows (subs d by-rows s ts))
+  rows-turned : {s : Shares} (ts : List ℕ) → Shared 16 d s
+      → D.shifted (D.substituted d (bytes 16 s) ts) ≡ bytes 16 (map shift-rows (subs d by-rows s ts))
   rows-turned {s} ts hs = ap D.shifted (substituted-turned ts hs) ∙ shifted-turned (subs d by-rows s ts)
 
   mixed-rows-turned : {s : Shares} (ts : List ℕ) → Shared 16 d s
       → D.mixed 4 (D.shifted (D.substituted d (bytes 16 s) ts)) ≡ bytes 16 (map mix-columns (map shift-rows (subs d by-rows s ts)))
   mixed-rows-turned {s} ts hs =
       let e = rows-turned ts hs in
-      ap (D.mixed 4) e ∙ mixed-turned (map shift-rows (subs d by-rows s ts)) (subst (All (Below 256)) e (rows-below d ts (bytes 16 s) (bytes-length 16 s)))
+      ap (D.mixed 4) e
+      ∙ mixed-turned (map shift-rows (subs d by-rows s ts)) (subst (All (Below 256)) e (rows-below d ts (bytes 16 s) (bytes-length 16 s)))
 
   module _ {l : ℕ} {ks : Shares} (keys : Shared l d ks) where
     round-turned : {s : Shares} (r : ℕ) (ts : List ℕ) → 16 * r + 16 ≤ l → Shared 16 d s
@@ -333,11 +350,13 @@ module _ {d : ℕ} where
         → D.rounds-from (suc left) r d (bytes l ks) (bytes 16 s) ts ≡ bytes 16 (masked-rounds left r d ks s ts)
     unfolding D.rounds-from masked-rounds masked-last-round
     rounds-turned zero r ts h hs =
-        ap₂ D.add (rows-turned ts hs) (round-key-turned l ks r (omega arith)) ∙ add-turned (rows-shared ts hs) (round-keys-shared r (omega arith) keys)
+        ap₂ D.add (rows-turned ts hs) (round-key-turned l ks r (omega arith))
+        ∙ add-turned (rows-shared ts hs) (round-keys-shared r (omega arith) keys)
     rounds-turned {s} (suc left) r ts h hs =
         let sub = D.shifted (D.substituted d (bytes 16 s) ts) in
         let after = D.rounds-from (suc left) (suc r) d (bytes l ks) in
-        ap (λ (last : Bool). after (D.add (cond last sub (D.mixed 4 sub)) (D.round-key (bytes l ks) r)) (drop (16 * D.box-tape d) ts)) (eqb·suc-zero left)
+        ap (λ (last : Bool). after (D.add (cond last sub (D.mixed 4 sub)) (D.round-key (bytes l ks) r)) (drop (16 * D.box-tape d) ts))
+        (eqb·suc-zero left)
         ∙ ap₂ after (round-turned r ts (omega arith) hs) (ap (λ (n : ℕ). drop n ts) (round-need-is d))
         ∙ rounds-turned left (suc r) (drop (round-need d) ts) (omega arith) (round-shared keys r ts (omega arith) hs)
 
@@ -355,14 +374,21 @@ unfolding D.encrypted D.rounds encrypted encrypted-with rounds
 encrypted-turned nk {d} {k} {x} ts size hk hx =
     let keys = schedule-shared nk ts (some-words nk size) hk in
     let n : nk + 6 ≡ suc (nk + 6 - 1) = omega arith in
-    rw (expanded-turned nk size ts hk, round-key-turned (16 * suc (nk + 6)) (schedule nk d k ts) 0 (omega arith), add-turned hx (round-keys-shared 0 (omega arith) keys), key-boxes-are nk d size)
-    (ap (λ (l : ℕ). D.rounds-from l 1 d (bytes (16 * suc (nk + 6)) (schedule nk d k ts)) (bytes 16 (adds x (round-keys (schedule nk d k ts) 0))) (drop (schedule-need nk d) ts)) n
+    rw (
+      expanded-turned nk size ts hk,
+      round-key-turned (16 * suc (nk + 6)) (schedule nk d k ts) 0 (omega arith),
+      add-turned hx (round-keys-shared 0 (omega arith) keys),
+      key-boxes-are nk d size,
+    )
+    (ap (λ (l : ℕ). D.rounds-from l 1 d (bytes (16 * suc (nk + 6)) (schedule nk d k ts)) (bytes 16 (adds x (round-keys (schedule nk d k ts) 0)))
+    (drop (schedule-need nk d) ts)) n
     ∙ rounds-turned keys (nk + 6 - 1) 1 (drop (schedule-need nk d) ts) (omega arith) (adds-shared hx (round-keys-shared 0 (omega arith) keys)))
 
 pub cipher-tape : (nk d : ℕ) → D.key-words nk ≡ true → D.cipher-tape nk d ≡ cipher-need nk d
 unfolding D.cipher-tape D.key-boxes D.rounds
 cipher-tape nk d =
-    sizes (λ nk. D.cipher-tape nk d ≡ cipher-need nk d) (omega (arith, box-tape d, counted d)) (omega (arith, box-tape d, counted d)) (omega (arith, box-tape d, counted d)) nk
+    sizes (λ nk. D.cipher-tape nk d ≡ cipher-need nk d) (omega (arith, box-tape d, counted d)) (omega (arith, box-tape d, counted d))
+    (omega (arith, box-tape d, counted d)) nk
 
 -- on the layout of the routines, byte for byte
 pub encrypted-agrees : (nk d : ℕ) (k x ts : List ℕ) → D.key-words nk ≡ true → length k ≡ suc d * (4 * nk) → length x ≡ suc d * 16

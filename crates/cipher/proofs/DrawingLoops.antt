@@ -20,9 +20,9 @@ use Rattle.cipher.proofs.DrawingLaws.{Loop}
 
 -- ---- S-boxes of the bytes ks, in turn
 
-unfoldable pub boxes : Direction → (d : ℕ) → (ks : List ℕ) → Loop Shares (length ks)
+unfoldable pub box-loop : Direction → (d : ℕ) → (ks : List ℕ) → Loop Shares (length ks)
 unfolding subs-of subs-need at
-boxes w d ks = record {
+box-loop w d ks = record {
   step = λ m ss ts. sub-at w d (at ks m) ss ts;
   cost = λ m. box-need d;
   left = λ m ss ts. subs-of w d (drop m ks) ss ts;
@@ -41,9 +41,9 @@ one-left n i h = omega arith
 pub none-left : (n : ℕ) → n - n ≡ 0
 none-left n = omega arith
 
-unfoldable pub key-words : (nk d total : ℕ) → Loop Shares total
+unfoldable pub word-loop : (nk d total : ℕ) → Loop Shares total
 unfolding schedule-from schedule-from-need
-key-words nk d total = record {
+word-loop nk d total = record {
   step = λ i ks ts. behind ks (masked-word nk d i ks ts);
   cost = λ i. temp-need d (kind nk i);
   left = λ i ks ts. schedule-from (total - i) i nk d ks ts;
@@ -61,9 +61,9 @@ rounds-next nr i m h =
     let e : (suc nr - i) * m ≡ suc (suc nr - suc i) * m = ap (λ (l : ℕ). l * m) (one-left (suc nr) i h) in
     omega (arith, suc-mul (suc nr - suc i) m)
 
-unfoldable pub all-rounds : Direction → (d nr : ℕ) → (keys : Shares) → Loop Shares (suc nr)
+unfoldable pub round-loop : Direction → (d nr : ℕ) → (keys : Shares) → Loop Shares (suc nr)
 unfolding rounds-of
-all-rounds w d nr ks = record {
+round-loop w d nr ks = record {
   step = λ i s ts. round-of w (eqb i nr) d (key-of w nr i) ks s ts;
   cost = λ i. round-need d;
   left = λ i s ts. rounds-of w nr (suc nr - i) i d ks s ts;
@@ -75,10 +75,10 @@ all-rounds w d nr ks = record {
 }
 
 -- what is left before round 1 is all of them
-pub rounds-whole : (w : Direction) (d nr : ℕ) (ks s : Shares) (ts : List ℕ) → all-rounds w d nr ks .left 1 s ts ≡ rounds-of w nr nr 1 d ks s ts
-unfolding all-rounds
+pub rounds-whole : (w : Direction) (d nr : ℕ) (ks s : Shares) (ts : List ℕ) → round-loop w d nr ks .left 1 s ts ≡ rounds-of w nr nr 1 d ks s ts
+unfolding round-loop
 rounds-whole w d nr ks s ts = let e : suc nr - 1 ≡ nr = omega arith in ap (λ (l : ℕ). rounds-of w nr l 1 d ks s ts) e
 
-pub rounds-whole-need : (w : Direction) (d nr : ℕ) (ks : Shares) → all-rounds w d nr ks .need 1 ≡ nr * round-need d
-unfolding all-rounds
+pub rounds-whole-need : (w : Direction) (d nr : ℕ) (ks : Shares) → round-loop w d nr ks .need 1 ≡ nr * round-need d
+unfolding round-loop
 rounds-whole-need w d nr ks = let e : suc nr - 1 ≡ nr = omega arith in ap (λ (l : ℕ). l * round-need d) e

@@ -12,11 +12,12 @@ use Rattle.gf256.specs.declared.Direction.the-variants.{Forward, Inverse}
 use Rattle.shares.specs.Strings.{Shares, Shared}
 use Rattle.cipher.specs.Fips197.{rounds}
 use Rattle.cipher.specs.States.{adds}
-use Rattle.cipher.specs.Cipher.{round-keys, round-need, masked-round, masked-rounds, encrypted-with, encrypted-with-need, masked-inv-round, masked-inv-rounds, decrypted-with}
+use Rattle.cipher.specs.Cipher.{round-keys, round-need, masked-round, masked-rounds, encrypted-with, encrypted-with-need, masked-inv-round}
+use Rattle.cipher.specs.Cipher.{masked-inv-rounds, decrypted-with}
 use Rattle.cipher.specs.Rounds.{round-of, key-of, rounds-of}
 use Rattle.cipher.proofs.StatesLaws.{adds-shared}
 use Rattle.cipher.proofs.DrawingLaws.{left-keeps}
-use Rattle.cipher.proofs.DrawingLoops.{all-rounds, rounds-whole}
+use Rattle.cipher.proofs.DrawingLoops.{round-loop, rounds-whole}
 use Rattle.cipher.proofs.CipherLaws.{round-keys-shared, round-shared, last-round-shared, inv-round-shared, inv-last-round-shared}
 use Rattle.cipher.proofs.NeedLaws.{round-need-is, encrypted-with-need-is}
 
@@ -39,10 +40,10 @@ key-of-bound Inverse nr i h = omega arith
 -- their shape
 rounds-of-shared : (w : Direction) (nr : ℕ) {l d : ℕ} {ks s : Shares} (ts : List ℕ) → Shared l d ks → 16 * nr + 16 ≤ l → Shared 16 d s
     → Shared 16 d (rounds-of w nr nr 1 d ks s ts)
-unfolding all-rounds
+unfolding round-loop
 rounds-of-shared w nr {d = d} {ks = ks} {s = s} ts keys h hs =
     subst (Shared 16 d) (rounds-whole w d nr ks s ts)
-    (left-keeps (all-rounds w d nr ks) (λ i s. Shared 16 d s)
+    (left-keeps (round-loop w d nr ks) (λ i s. Shared 16 d s)
     (λ i u s ts hs. round-of-shared w (eqb i nr) (key-of w nr i) ts keys (let b = key-of-bound w nr i (omega arith) in omega arith) hs)
     1 (omega arith) s ts hs)
 

@@ -7,10 +7,13 @@ use Rattle.xor.specs.Digit.{if-set}
 use Rattle.xor.specs.Lists.{at, tab, runs}
 use Rattle.xor.specs.Pairs.{before-row, draw-index}
 use Rattle.xor.specs.Sums.{joined}
-use Rattle.gf256.specs.Field.{doubled, times-from, times, squared, fourth, sixteenth, power, inverse, parity, rows-from, linear-by, affine-by, rows, affine, mixed, mix-column}
-use Rattle.isw.specs.Place.{running, skip, half-sum, other, term, row, byte, pair-places, pair-row, row-places, places, outputs, drawn, product-need, value, sheet, product}
+use Rattle.gf256.specs.Field.{doubled, times-from, times, squared, fourth, sixteenth, power, inverse, parity, rows-from, linear-by, affine-by, rows}
+use Rattle.gf256.specs.Field.{affine, mixed, mix-column}
+use Rattle.isw.specs.Place.{running, skip, half-sum, other, term, row, byte, pair-places, pair-row, row-places, places, outputs, drawn, product-need}
+use Rattle.isw.specs.Place.{value, sheet, product}
 use Rattle.shares.specs.Refresh.{into, pairs-refreshed, refresh-pairs, refreshed, refresh-need}
-use Rattle.sbox.specs.Box.{stage-z, stage-y, stage-w, stage-v, stage-last, stage-need, power-254, corrected, affine-shares, box, box-need}
+use Rattle.power254.specs.Power254.{stage-z, stage-y, stage-w, stage-v, stage-last, stage-need, power-254, power-need}
+use Rattle.sbox.specs.Box.{corrected, affine-shares, box, box-need}
 use Rattle.cipher.specs.Fips197.{cell, state, mix-columns}
 
 -- bytes, and how many tape bytes were taken for them: what is computed, and what the document says
@@ -64,5 +67,8 @@ small-values =
     ∷ []
 
 pub small-values-right : map computed small-values ≡ map said small-values
-unfolding if-set doubled times-from times squared fourth sixteenth power inverse parity ones onesIn rows-from linear-by affine-by rows affine mixed mix-column cell state mix-columns at tab runs joined running skip half-sum other term row byte pair-places pair-row row-places places outputs before-row draw-index drawn product-need value sheet product into pairs-refreshed refresh-pairs refreshed refresh-need stage-z stage-y stage-w stage-v stage-last stage-need power-254 corrected affine-shares box box-need
+unfolding if-set doubled times-from times squared fourth sixteenth power inverse parity ones onesIn rows-from linear-by affine-by rows affine mixed
+    mix-column cell state mix-columns at tab runs joined running skip half-sum other term row byte pair-places pair-row row-places places outputs
+    before-row draw-index drawn product-need value sheet product into pairs-refreshed refresh-pairs refreshed refresh-need stage-z stage-y stage-w
+    stage-v stage-last stage-need power-254 corrected affine-shares box power-need
 small-values-right = refl

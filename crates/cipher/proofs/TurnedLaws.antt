@@ -14,7 +14,7 @@ use Rattle.xor.proofs.ListsLaws.{all-getD, tab-cong, tab-first, length-tab, get
 use Rattle.xor.proofs.RunsLaws.{runs-split, tab-from}
 use Rattle.xor.proofs.StringLaws.{at-xors}
 use Rattle.xor.proofs.Tests.{by-eq}
-use Rattle.xor.proofs.XorLaws.{xor-sums}
+use Rattle.xor.proofs.XorLaws.{xor-regroup}
 use Rattle.gf256.specs.Field.{doubled, power, mixed}
 use Rattle.gf256.proofs.ProductLaws.{times-two, times-three}
 use Rattle.shares.specs.Strings.{Shares, Shared, alone, more, laid, parts}
@@ -52,7 +52,8 @@ column-put-other [] j k vs ne = refl
 column-put-other (s ∷ ss) j k [] ne = refl
 column-put-other (s ∷ ss) j k (v ∷ vs) ne = ap₂ _∷_ (getD-set-other s k j v 0 ne) (column-put-other ss j k vs ne)
 
-pub bytes-put : {l d : ℕ} {ss : Shares} (k : ℕ) (vs : List ℕ) → k < l → length vs ≡ suc d → Shared l d ss → bytes l (put ss k vs) ≡ set (bytes l ss) k vs
+pub bytes-put : {l d : ℕ} {ss : Shares} (k : ℕ) (vs : List ℕ) → k < l → length vs ≡ suc d → Shared l d ss
+    → bytes l (put ss k vs) ≡ set (bytes l ss) k vs
 unfolding bytes
 bytes-put {l} {ss = ss} k vs g e hs =
     let lb = length-tab (λ j. column j (put ss k vs)) l in
@@ -108,7 +109,8 @@ column-before k u (more {s = s} h hs) (more {s = t} g gs) = ap₂ _∷_ (sym (Li
 
 column-after : {l m d : ℕ} {ss ts : Shares} (k : ℕ) → Shared l d ss → Shared m d ts → column k ts ≡ column (l + k) (behind ss ts)
 unfolding column behind at
-column-after k (alone {s = s} h) (alone {s = t} g) = ap (λ (x : ℕ). x ∷ []) (sym (ap (λ (n : ℕ). getD (s ++ t) (n + k) 0) (sym h) ∙ getD-append-add s t k 0))
+column-after k (alone {s = s} h) (alone {s = t} g) =
+    ap (λ (x : ℕ). x ∷ []) (sym (ap (λ (n : ℕ). getD (s ++ t) (n + k) 0) (sym h) ∙ getD-append-add s t k 0))
 column-after k (more {s = s} h hs) (more {s = t} g gs) =
     ap₂ _∷_ (sym (ap (λ (n : ℕ). getD (s ++ t) (n + k) 0) (sym h) ∙ getD-append-add s t k 0)) (column-after k hs gs)
 
@@ -155,10 +157,7 @@ shifted-turned ss = bytes-map 16 shift-rows (λ k s. cell s (k % 4) (k / 4 + k %
 mixed-is : (a b c e : ℕ) → b < 256 → bitXor (doubled a) (bitXor (bitXor (doubled b) b) (bitXor c e)) ≡ mixed a b c e
 unfolding mixed
 mixed-is a b c e h =
-    regroup (doubled a) (bitXor (doubled b) b) c e ∙ sym (ap₂ (λ (x y : ℕ). bitXor (bitXor (bitXor x y) c) e) (times-two a) (times-three b h))
-  where
-    regroup : (x y c e : ℕ) → bitXor x (bitXor y (bitXor c e)) ≡ bitXor (bitXor (bitXor x y) c) e
-    regroup x y c e = simp xor-sums
+    xor-regroup (doubled a) (bitXor (doubled b) b) c e ∙ sym (ap₂ (λ (x y : ℕ). bitXor (bitXor (bitXor x y) c) e) (times-two a) (times-three b h))
 
 column-mixed : (i j k m : ℕ) (ss : Shares) → Below 256 (column j ss)
     → D.mixed-byte (column i ss) (column j ss) (column k ss) (column m ss) ≡ map (λ s. mixed (at s i) (at s j) (at s k) (at s m)) ss
@@ -235,7 +234,8 @@ column-parts (suc n) l i bs h = ap₂ _∷_ (sym (getD-take l bs i 0 h)) (column
 shared-from-is : (left i n l : ℕ) (bs : List ℕ) → D.shared-from left i n l bs ≡ tab (λ m. D.column n l (i + m) bs) left
 unfolding D.shared-from
 shared-from-is zero i n l bs = unfold tab runs in refl
-shared-from-is (suc left) i n l bs = ap (_∷_ (D.column n l i bs)) (shared-from-is left (suc i) n l bs) ∙ sym (tab-from (λ i. D.column n l i bs) i left)
+shared-from-is (suc left) i n l bs =
+    ap (_∷_ (D.column n l i bs)) (shared-from-is left (suc i) n l bs) ∙ sym (tab-from (λ i. D.column n l i bs) i left)
 
 pub shared-turned : (d l : ℕ) (bs : List ℕ) → length bs ≡ suc d * l → D.shared (suc d) bs ≡ bytes l (parts (suc d) l bs)
 unfolding D.shared bytes

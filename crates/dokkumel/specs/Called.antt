@@ -8,7 +8,8 @@ use Rattle.masking.specs.Calls.{Product-outcome}
 use Rattle.sbox.specs.Calls.{Box-outcome}
 use Rattle.aes.specs.Calls.{Encrypt-outcome, Decrypt-outcome, Prepare-outcome, Encrypt-prepared-outcome}
 use Rattle.dokkumel.specs.declared.commands.Command.{Command}
-use Rattle.dokkumel.specs.declared.commands.Command.the-variants.{Encrypt, Decrypt, Prepare, EncryptPrepared, Split, Join, Refresh, Product, Sbox, Read, Sheet, Places, Tape, Preview, Help, Unknown}
+use Rattle.dokkumel.specs.declared.commands.Command.the-variants.{Encrypt, Decrypt, Prepare, EncryptPrepared, Split, Join, Refresh, Product}
+use Rattle.dokkumel.specs.declared.commands.Command.the-variants.{Sbox, Read, Sheet, Places, Tape, Preview, Help, Unknown}
 
 -- a command that calls no routine of this form never gets there; it stands as a refused order
 abbrev pub called : Command → (order : ℕ) (first second tape output : List ℕ) → Outcome

@@ -1,13 +1,12 @@
 // The command `sheet`: all places of a product with their bytes.
 use crate::answers;
-use crate::places;
 use shares::Answer;
 
 // The sheet goes into a buffer of that size.
 fn run_in(order: usize, left: &[u8], right: &[u8], tape: &[u8], sheet: &mut [u8]) {
     match sheets::product_sheet(order, left, right, tape, sheet) {
         Answer::Taken(count) => {
-            places::print(order, sheet);
+            listing::places::print(order, sheet);
             answers::print_taken(count)
         }
         Answer::Refused(r) => answers::print_refused(r),

@@ -27,10 +27,16 @@ unfolding settled
 preview-returns ts k o made q t s n s′ n′ f g = go (answered ts k) f g
   where
     go : (a : Answer) → gives s n q ≡ returned (ended a o made) t → gives s′ n′ [] ≡ returned (ended a [] []) t → (s ≡ s′) × (n ≡ n′)
-    go (Taken c) f g =
-        (ap (λ (x : Returned). x .status) f ∙ sym (ap (λ (x : Returned). x .status) g), ap (λ (x : Returned). x .taken) f ∙ sym (ap (λ (x : Returned). x .taken) g))
-    go (Refused r) f g =
-        (ap (λ (x : Returned). x .status) f ∙ sym (ap (λ (x : Returned). x .status) g), ap (λ (x : Returned). x .taken) f ∙ sym (ap (λ (x : Returned). x .taken) g))
+    go (Taken c) f g = (
+      ap (λ (x : Returned). x .status) f ∙ sym (ap (λ (x : Returned). x .status) g),
+      ap (λ (x : Returned). x .taken) f
+          ∙ sym (ap (λ (x : Returned). x .taken) g),
+    )
+    go (Refused r) f g = (
+      ap (λ (x : Returned). x .status) f ∙ sym (ap (λ (x : Returned). x .status) g),
+      ap (λ (x : Returned). x .taken) f
+          ∙ sym (ap (λ (x : Returned). x .taken) g),
+    )
 
 -- ---- unused tape
 
@@ -42,7 +48,8 @@ rest-fits ts k = omega (arith, length-drop k ts)
 -- the tape without the rest is what lies before its start
 pub before-rest : (ts : List ℕ) (k : ℕ) → length ts - length (unused ts k) ≡ unused-start ts k
 unfolding unused unused-start
-before-rest ts k = ap (λ (m : ℕ). length ts - m) (length-drop k ts) ∙ either (ltb (length ts) k) (length ts) k (ltb-true (length ts) k) (ltb-false (length ts) k)
+before-rest ts k =
+    ap (λ (m : ℕ). length ts - m) (length-drop k ts) ∙ either (ltb (length ts) k) (length ts) k (ltb-true (length ts) k) (ltb-false (length ts) k)
   where
     either : (b : Bool) (l k : ℕ) → (b ≡ true → l < k) → (b ≡ false → k ≤ l) → l - (l - k) ≡ cond b l k
     either true l k past within = let h = past refl in omega arith

@@ -10,7 +10,7 @@ use lib.Pow.{mod-pow-add}
 use lib.Bits.{bitXor, xor-lt}
 use Rattle.xor.specs.Digit.{if-set}
 use Rattle.xor.proofs.DigitLaws.{two-pos, digit-cases, digit-sum, xor-half, xor-odd, if-set-lt}
-use Rattle.xor.proofs.XorLaws.{xor-sums}
+use Rattle.xor.proofs.XorLaws.{xor-regroup}
 use Rattle.gf256.specs.Field as Field
 use Rattle.field_laws.specs.Document03 as Document03
 use Rattle.gf256.proofs.TableTest.{alike}
@@ -45,7 +45,8 @@ times-from-agrees zero a b h = refl
 times-from-agrees (suc k) a b h =
     ap₂ Document03.xor (picked (b % 2) a (mod-lt b two-pos))
     (ap (λ (n : ℕ). Document03.times-from k n (b / 2)) (doubled-agrees a h) ∙ times-from-agrees k (Field.doubled a) (b / 2) (doubled-lt a))
-    ∙ xor-agrees (if-set (b % 2) a) (Field.times-from k (Field.doubled a) (b / 2)) (if-set-lt 8 (b % 2) a h) (times-from-lt k (Field.doubled a) (b / 2) (doubled-lt a))
+    ∙ xor-agrees (if-set (b % 2) a) (Field.times-from k (Field.doubled a) (b / 2)) (if-set-lt 8 (b % 2) a h)
+    (times-from-lt k (Field.doubled a) (b / 2) (doubled-lt a))
 
 pub times-agrees : (a b : ℕ) → a < 256 → Document03.times a b ≡ Field.times a b
 unfolding Document03.times Field.times
@@ -77,9 +78,7 @@ mixed-agrees a b c e ha hb hc he =
     ap₂ (λ (x y : ℕ). Document03.xor x (Document03.xor (Document03.xor y b) (Document03.xor c e))) (doubled-agrees a ha) (doubled-agrees b hb)
     ∙ ap₂ (λ (x y : ℕ). Document03.xor (Field.doubled a) (Document03.xor x y)) (xor-agrees (Field.doubled b) b db hb) (xor-agrees c e hc he)
     ∙ ap (Document03.xor (Field.doubled a)) (xor-agrees (bitXor (Field.doubled b) b) (bitXor c e) three rest)
-    ∙ xor-agrees (Field.doubled a) (bitXor (bitXor (Field.doubled b) b) (bitXor c e)) da (xor-lt 8 (bitXor (Field.doubled b) b) (bitXor c e) three rest)
-    ∙ regroup (Field.doubled a) (bitXor (Field.doubled b) b) c e
+    ∙ xor-agrees (Field.doubled a) (bitXor (bitXor (Field.doubled b) b) (bitXor c e)) da
+    (xor-lt 8 (bitXor (Field.doubled b) b) (bitXor c e) three rest)
+    ∙ xor-regroup (Field.doubled a) (bitXor (Field.doubled b) b) c e
     ∙ sym (ap₂ (λ (x y : ℕ). bitXor (bitXor (bitXor x y) c) e) (times-two a) (times-three b hb))
-  where
-    regroup : (x y c e : ℕ) → bitXor x (bitXor y (bitXor c e)) ≡ bitXor (bitXor (bitXor x y) c) e
-    regroup x y c e = simp xor-sums

@@ -49,7 +49,8 @@ from-top-bits zero a b ha hb h = sym (times-before-bits a b hb)
 from-top-bits (suc n) a b ha hb h =
     let above : 8 - n ≡ 7 - n + 1 = omega arith in
     let here : 7 - n ≡ 8 - suc n = omega arith in
-    ap (λ (p : ℕ). bitXor (doubled p) (if-set (b / 2 ^ (7 - n) % 2) a)) (from-top-bits n a b ha hb (omega arith) ∙ ap (λ (k : ℕ). times a (b / 2 ^ k)) above)
+    ap (λ (p : ℕ). bitXor (doubled p) (if-set (b / 2 ^ (7 - n) % 2) a))
+    (from-top-bits n a b ha hb (omega arith) ∙ ap (λ (k : ℕ). times a (b / 2 ^ k)) above)
     ∙ sym (times-next-bit a b (7 - n) ha hb)
     ∙ ap (λ (k : ℕ). times a (b / 2 ^ k)) here
 

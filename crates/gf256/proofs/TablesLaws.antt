@@ -101,7 +101,8 @@ module _ (ls : List ℕ) (t : T (all 255 (one-right ls))) where
   tested : (a l : ℕ) → 0 < a → a < 256 → at ls a ≡ l → T (step-right a l (at ls (times 0xf6 a)))
   unfolding one-right
   tested zero l p h e = absurd (not-suc-le-zero p)
-  tested (suc i) l p h e = subst (λ (x : ℕ). T (step-right (suc i) x (at ls (times 0xf6 (suc i))))) e (all-at (one-right ls) 255 t i (le-of-suc-le-suc h))
+  tested (suc i) l p h e =
+      subst (λ (x : ℕ). T (step-right (suc i) x (at ls (times 0xf6 (suc i))))) e (all-at (one-right ls) 255 t i (le-of-suc-le-suc h))
 
   -- a log is the exponent of its byte, by as many thirds as it counts
   log-power : (l a : ℕ) → 0 < a → a < 256 → at ls a ≡ l → (l < 255) × (power 3 l ≡ a)

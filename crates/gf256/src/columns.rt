@@ -22,7 +22,7 @@ fn unmix(a: u8, b: u8, c: u8, d: u8) -> u8
 }
 
 // A byte of the column, by the direction.
-pub fn mix_by(which: Direction, a: u8, b: u8, c: u8, d: u8) -> u8
+pub fn mixed_of(which: Direction, a: u8, b: u8, c: u8, d: u8) -> u8
     ensures { λ r. ⌜ r ≡ mixed-of which a b c d ⌝ }
 {
     match which {

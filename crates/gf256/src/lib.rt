@@ -12,7 +12,7 @@ mod tables;
 
 pub use affine_map::affine;
 pub use affine_map::constant;
-pub use columns::mix_by;
+pub use columns::mixed_of;
 pub use product::double;
 pub use product::times;
 pub use tables::Antilogs;

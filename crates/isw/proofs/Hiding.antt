@@ -22,7 +22,7 @@ use Rattle.isw.proofs.PlaceLaws.{Within, places-within, length-places}
 use Rattle.isw.proofs.CountLaws.{sums, how-many-sums, sums-cong, sums-split, sums-xors}
 use Rattle.isw.proofs.MaskLaws.{taken-up, length-taken-up, other-shares, taken-up-below, xors-below, factor-below}
 use Rattle.isw.proofs.Missed.{miss}
-use Rattle.isw.proofs.Unseen.{seen-a, seen-b, rows, pick, change, correction, unseen}
+use Rattle.isw.proofs.Unseen.{seen-a, seen-b, kept-rows, pick, change, correction, unseen}
 
 -- ---- the corrections are numbers of w bits where the operation makes such numbers
 
@@ -57,7 +57,7 @@ over-choices op w d x y ps g =
 module _ (op : ℕ → ℕ → ℕ) (w : ℕ) (closed : (x y : ℕ) → x < 2 ^ w → y < 2 ^ w → op x y < 2 ^ w)
     (d : ℕ) (ps : List Place) (within : All (Within (suc d)) ps) (g : List ℕ → ℕ)
     (x y v z : ℕ) (hx : x < 2 ^ w) (hy : y < 2 ^ w) (hv : v < 2 ^ w) (hz : z < 2 ^ w)
-    (p q : ℕ) (p-le : p ≤ d) (q-le : q ≤ d) (p-free : All (λ k. seen-a k ≢ p) ps) (q-free : All (λ k. seen-b (rows ps) k ≢ q) ps) where
+    (p q : ℕ) (p-le : p ≤ d) (q-le : q ≤ d) (p-free : All (λ k. seen-a k ≢ p) ps) (q-free : All (λ k. seen-b (kept-rows ps) k ≢ q) ps) where
   -- how the masks move
   abbrev left-move : List ℕ
   left-move = taken-up p (bitXor x v)
@@ -88,17 +88,17 @@ module _ (op : ℕ → ℕ → ℕ) (w : ℕ) (closed : (x y : ℕ) → x < 2 ^ 
     left-stays : All (λ k. a (seen-a k) ≡ a′ (seen-a k)) ps
     left-stays = all-map (λ k n. other-shares x v p ma (seen-a k) n) p-free
 
-    right-stays : All (λ k. b (seen-b (rows ps) k) ≡ b′ (seen-b (rows ps) k)) ps
-    right-stays = all-map (λ k n. other-shares y z q mb (seen-b (rows ps) k) n) q-free
+    right-stays : All (λ k. b (seen-b (kept-rows ps) k) ≡ b′ (seen-b (kept-rows ps) k)) ps
+    right-stays = all-map (λ k n. other-shares y z q mb (seen-b (kept-rows ps) k) n) q-free
 
     -- how the tape moves
     abbrev moved : (i j : ℕ) → ℕ
-    moved = correction op (rows ps) a a′ b b′
+    moved = correction op (kept-rows ps) a a′ b b′
 
     tape-below : Below (2 ^ w) (each-pair (suc d) moved)
     tape-below =
         all-each-pair (suc d) moved (λ i j l u.
-        correction-lt op w closed (rows ps) a a′ b b′
+        correction-lt op w closed (kept-rows ps) a a′ b b′
         (at-below w (factor-below w hx ha)) (at-below w (factor-below w hv (xors-below w ha left-below)))
         (at-below w (factor-below w hy hb)) (at-below w (factor-below w hz (xors-below w hb right-below))) i j)
 
@@ -125,8 +125,8 @@ pub hides-named : (op : ℕ → ℕ → ℕ) (w : ℕ) → ((x y : ℕ) → x < 
     → (g : List ℕ → ℕ) → over-choices op w d x y ps g ≡ over-choices op w d v z ps g
 hides-named op w closed d ps within few x y v z hx hy hv hz g =
     let (p, p-le, p-free) = miss d (map seen-a ps) (rw length-map few) in
-    let (q, q-le, q-free) = miss d (map (seen-b (rows ps)) ps) (rw length-map few) in
-    all-same op w closed d ps within g x y v z hx hy hv hz p q p-le q-le (all-of-map seen-a ps p-free) (all-of-map (seen-b (rows ps)) ps q-free)
+    let (q, q-le, q-free) = miss d (map (seen-b (kept-rows ps)) ps) (rw length-map few) in
+    all-same op w closed d ps within g x y v z hx hy hv hz p q p-le q-le (all-of-map seen-a ps p-free) (all-of-map (seen-b (kept-rows ps)) ps q-free)
 
 -- ---- places by number
 

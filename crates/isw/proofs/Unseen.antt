@@ -41,9 +41,9 @@ seen-a (part i k) = i
 abbrev pub holds : Place → ℕ → Bool
 holds p i = opens p && eqb (seen-a p) i
 
-unfoldable pub rows : List Place → ℕ → Bool
-rows [] i = false
-rows (p ∷ ps) i = holds p i || rows ps i
+unfoldable pub kept-rows : List Place → ℕ → Bool
+kept-rows [] i = false
+kept-rows (p ∷ ps) i = holds p i || kept-rows ps i
 
 unfoldable pub seen-b : (kept : ℕ → Bool) → Place → ℕ
 seen-b s (left i) = i
@@ -149,19 +149,19 @@ module _ (op : ℕ → ℕ → ℕ) (n : ℕ) (s : ℕ → Bool) (a a′ b b′ 
 -- ---- the rows of the listed places
 
 -- each place of a row has its row kept
-opened : (ps : List Place) → All (λ p. T (opens p) → T (rows ps (seen-a p))) ps
-unfolding rows
+opened : (ps : List Place) → All (λ p. T (opens p) → T (kept-rows ps (seen-a p))) ps
+unfolding kept-rows
 opened [] = done
 opened (p ∷ ps) =
-    (λ o. or-left (holds p (seen-a p)) (rows ps (seen-a p)) (and-both (opens p) (eqb (seen-a p) (seen-a p)) o (eqb-refl (seen-a p))))
-    & all-map (λ q f o. or-right (holds p (seen-a q)) (rows ps (seen-a q)) (f o)) (opened ps)
+    (λ o. or-left (holds p (seen-a p)) (kept-rows ps (seen-a p)) (and-both (opens p) (eqb (seen-a p) (seen-a p)) o (eqb-refl (seen-a p))))
+    & all-map (λ q f o. or-right (holds p (seen-a q)) (kept-rows ps (seen-a q)) (f o)) (opened ps)
 
 -- what is known of each place's share is known of each row that is kept
-known : (f g : ℕ → ℕ) {ps : List Place} → All (λ p. T (opens p) → f (seen-a p) ≡ g (seen-a p)) ps → (i : ℕ) → T (rows ps i) → f i ≡ g i
-unfolding rows
+known : (f g : ℕ → ℕ) {ps : List Place} → All (λ p. T (opens p) → f (seen-a p) ≡ g (seen-a p)) ps → (i : ℕ) → T (kept-rows ps i) → f i ≡ g i
+unfolding kept-rows
 known f g done i t = absurd t
 known f g (_&_ {x = p} {xs = ps} h hs) i t =
-    or-cases (holds p i) (rows ps i)
+    or-cases (holds p i) (kept-rows ps i)
     (λ u. rw (eqb→eq (seen-a p) i (and-right (opens p) (eqb (seen-a p) i) u)) at (h (and-left (opens p) (eqb (seen-a p) i) u)))
     (known f g hs i) t
 
@@ -178,9 +178,9 @@ seen-both s f g (part i k) e o = e
 
 -- THE CORE: where the shares that the listed places see stay, and the draws move by the correction, every listed place stays
 pub unseen : (op : ℕ → ℕ → ℕ) (n : ℕ) (ps : List Place) (a a′ b b′ : ℕ → ℕ) (r r′ : ℕ → ℕ → ℕ)
-    → All (Within n) ps → All (λ p. a (seen-a p) ≡ a′ (seen-a p)) ps → All (λ p. b (seen-b (rows ps) p) ≡ b′ (seen-b (rows ps) p)) ps
-    → ((i j : ℕ) → i < j → j < n → r′ i j ≡ bitXor (r i j) (correction op (rows ps) a a′ b b′ i j))
+    → All (Within n) ps → All (λ p. a (seen-a p) ≡ a′ (seen-a p)) ps → All (λ p. b (seen-b (kept-rows ps) p) ≡ b′ (seen-b (kept-rows ps) p)) ps
+    → ((i j : ℕ) → i < j → j < n → r′ i j ≡ bitXor (r i j) (correction op (kept-rows ps) a a′ b b′ i j))
     → All (λ p. byte op a b r p ≡ byte op a′ b′ r′ p) ps
 unseen op n ps a a′ b b′ r r′ w x y m =
-    bytes-same op n (rows ps) a a′ b b′ r r′
-    (known a a′ (all-map (λ p e o. e) x)) (known b b′ (all-map (seen-both (rows ps) b b′) y)) m w (opened ps) x y
+    bytes-same op n (kept-rows ps) a a′ b b′ r r′
+    (known a a′ (all-map (λ p e o. e) x)) (known b b′ (all-map (seen-both (kept-rows ps) b b′) y)) m w (opened ps) x y

@@ -6,7 +6,8 @@ use native.Mathlib.Nat.{mul-le-mul}
 use native.Mathlib.Numerals.{add-one}
 use native.Mathlib.Omega.{arith}
 use Rattle.shares.specs.Outcome.{one-of, share-length}
-use Rattle.shares.proofs.LengthsLaws.{one-of-here, one-of-next, one-of-is, one-of-each, one-of-le, none, also, share-length-16, share-length-24, share-length-32, share-length-cases, share-length-is}
+use Rattle.shares.proofs.LengthsLaws.{one-of-here, one-of-next, one-of-is, one-of-each, one-of-le, none, also, share-length-16, share-length-24}
+use Rattle.shares.proofs.LengthsLaws.{share-length-32, share-length-cases, share-length-is}
 use Rattle.sbox.specs.Box.{box-need}
 use Rattle.sbox.proofs.BoxLaws.{box-need-bound}
 use Rattle.cipher.specs.Fips197.{rounds}
@@ -28,7 +29,8 @@ module _ (d l : ℕ) (some : 0 < key-words d l) where
   pub key-length : l ≡ suc d * (4 * key-words d l)
   unfolding key-words
   key-length =
-      let e : 4 * (share-length (suc d) l / 4) ≡ share-length (suc d) l = share-length-cases (λ s. 4 * (s / 4) ≡ s) refl refl refl (suc d) l key-share in
+      let e : 4 * (share-length (suc d) l / 4) ≡ share-length (suc d) l =
+      share-length-cases (λ s. 4 * (s / 4) ≡ s) refl refl refl (suc d) l key-share in
       share-length-is (suc d) l key-share ∙ ap (λ (m : ℕ). suc d * m) (sym e)
 
 -- key shares have the size of their key
@@ -53,7 +55,8 @@ module _ (d l : ℕ) (some : 0 < prepared-words d l) where
   prepared-long =
       one-of-is prepared-lengths (suc d) l prepared-share
       ∙ ap (λ (m : ℕ). suc d * m)
-      (one-of-each {P = λ s. s ≡ 16 * suc (s / 16 - 7 + 6)} (also {l = 176} refl (also {l = 208} refl (also {l = 240} refl none))) (suc d) l prepared-share)
+      (one-of-each {P = λ s. s ≡ 16 * suc (s / 16 - 7 + 6)} (also {l = 176} refl (also {l = 208} refl (also {l = 240} refl none)))
+      (suc d) l prepared-share)
 
 -- the code's own count, of a length l that was looked up
 module _ (d b l : ℕ) (found : l ≡ one-of prepared-lengths (d + 1) b) where
@@ -71,7 +74,8 @@ module _ (d b l : ℕ) (found : l ≡ one-of prepared-lengths (d + 1) b) where
 
   pub prepared-words-some : (l ≡ 0 → ⊥) → 7 ≤ l / 16
   prepared-words-some h =
-      rw looked-up (one-of-each {P = λ s. 7 ≤ s / 16} (also {l = 176} (omega arith) (also {l = 208} (omega arith) (also {l = 240} (omega arith) none))) (suc d) b
+      rw looked-up
+      (one-of-each {P = λ s. 7 ≤ s / 16} (also {l = 176} (omega arith) (also {l = 208} (omega arith) (also {l = 240} (omega arith) none))) (suc d) b
       (rw looked-up at (positive l h)))
     where
       positive : (n : ℕ) → (n ≡ 0 → ⊥) → 0 < n
@@ -124,14 +128,14 @@ schedule-need-made d eight = sym (schedule-need-8 d)
 pub schedule-need-bound : {nk : ℕ} (d : ℕ) → Key-size nk → d ≤ 8 → boxes-of nk * box-need d ≤ 8320
 schedule-need-bound d size h = mul-le-mul (boxes-bound size) (box-need-bound d h)
 
-pub rounds-need-made : {nk : ℕ} (d : ℕ) → Key-size nk → 16 * (nk + 6) * box-need d ≡ encrypted-with-need nk d
+pub encrypted-with-need-made : {nk : ℕ} (d : ℕ) → Key-size nk → 16 * (nk + 6) * box-need d ≡ encrypted-with-need nk d
 unfolding rounds
-rounds-need-made d four = omega (arith, encrypted-with-need-is 4 d)
-rounds-need-made d six = omega (arith, encrypted-with-need-is 6 d)
-rounds-need-made d eight = omega (arith, encrypted-with-need-is 8 d)
+encrypted-with-need-made d four = omega (arith, encrypted-with-need-is 4 d)
+encrypted-with-need-made d six = omega (arith, encrypted-with-need-is 6 d)
+encrypted-with-need-made d eight = omega (arith, encrypted-with-need-is 8 d)
 
-pub rounds-need-bound : {nk : ℕ} (d : ℕ) → Key-size nk → d ≤ 8 → 16 * (nk + 6) * box-need d ≤ 35840
-rounds-need-bound {nk} d size h =
+pub encrypted-with-need-bound : {nk : ℕ} (d : ℕ) → Key-size nk → d ≤ 8 → 16 * (nk + 6) * box-need d ≤ 35840
+encrypted-with-need-bound {nk} d size h =
     let b = size-bounds size in
     let n : 16 * (nk + 6) ≤ 224 = omega arith in
     mul-le-mul n (box-need-bound d h)

@@ -63,7 +63,13 @@ pub fn prepared_answer(
     if nk == 0 {
         return Answer::Refused(Refusal::Key);
     }
-    block_answer(needs::rounds_need(nk, order), order, input, tape, output)
+    block_answer(
+        needs::encrypted_with_need(nk, order),
+        order,
+        input,
+        tape,
+        output,
+    )
 }
 
 // The tests of a preparation. It has no input.

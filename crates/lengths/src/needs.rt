@@ -27,7 +27,7 @@ pub fn schedule_need(nk: usize, d: usize) -> usize
 }
 
 // How many bytes the rounds draw, either way: 16 S-boxes each.
-pub fn rounds_need(nk: usize, d: usize) -> usize
+pub fn encrypted_with_need(nk: usize, d: usize) -> usize
     requires { ⌜ (d ≤ 8) × Key-size nk ⌝ }
     ensures { λ r. ⌜ (r ≡ Cipher.encrypted-with-need nk d) × (r ≤ 35840) ⌝ }
 {
@@ -39,5 +39,5 @@ pub fn cipher_need(nk: usize, d: usize) -> usize
     requires { ⌜ (d ≤ 8) × Key-size nk ⌝ }
     ensures { λ r. ⌜ r ≡ Cipher.cipher-need nk d ⌝ }
 {
-    schedule_need(nk, d) + rounds_need(nk, d)
+    schedule_need(nk, d) + encrypted_with_need(nk, d)
 }

@@ -120,8 +120,8 @@ module _ (n : ℕ) (a b ts : List ℕ) where
         let e : i + (m + 1) ≡ i + 1 + m = omega arith in
         row-own (m + 1) (omega arith) ∙ ap (sum-of i) e
 
-    abbrev behind : (m : ℕ) → List ℕ
-    behind m = behind-taken i (backs a b tape i) s m
+    abbrev after-pairs : (m : ℕ) → List ℕ
+    after-pairs m = behind-taken i (backs a b tape i) s m
 
     -- the shares behind i after the first m pairs, and all others
     record Row-sums (m : ℕ) (sums : List ℕ) : Type 0 where
@@ -155,14 +155,14 @@ module _ (n : ℕ) (a b ts : List ℕ) where
             getD-set-same o j _ 0 (omega arith)
             ∙ sum-before i j (at o j) (backs a b tape i m) (omega arith) (p .begun j (omega arith) (omega arith)) (row-backs n a b ts i m tape f)
 
-    row-sums : (m : ℕ) → m ≤ w → Row-sums m (behind m)
+    row-sums : (m : ℕ) → m ≤ w → Row-sums m (after-pairs m)
     unfolding behind-taken
     row-sums zero h = record {
       whole = g .whole;
       taken = λ k u v. absurd (omega arith);
       begun = λ k u v. g .begun k (omega arith) v;
     }
-    row-sums (suc m) h = row-pair m (behind m) (omega arith) (length-behind i (backs a b tape i) s m) (row-sums m (omega arith))
+    row-sums (suc m) h = row-pair m (after-pairs m) (omega arith) (length-behind i (backs a b tape i) s m) (row-sums m (omega arith))
 
     row-end : (o : List ℕ) (v : ℕ) → length o ≡ length s → v ≡ sum-of i (i + w) → Row-sums w o → Sums (i + 1) (set o i v)
     unfolding at
@@ -185,7 +185,7 @@ module _ (n : ℕ) (a b ts : List ℕ) where
     -- they are those before the next row
     pub row-taken-sums : Sums (i + 1) (pairs-taken a b tape i w s)
     unfolding row-taken
-    row-taken-sums = row-end (behind w) _ (length-behind i (backs a b tape i) s w) (row-own w (omega arith)) (row-sums w (omega arith))
+    row-taken-sums = row-end (after-pairs w) _ (length-behind i (backs a b tape i) s w) (row-own w (omega arith)) (row-sums w (omega arith))
 
 -- ---- after all pairs, the sums are the product's shares: the last share has no row of its own
 

@@ -131,8 +131,7 @@ pub fn product_core(
     tape: &[u8],
     output: &mut [u8],
 ) -> usize
-    requires { ⌜ (d ≤ 8) × (length (now output) ≡ suc d) × (length (now a) ≡ suc d) × (length (now b) ≡ suc d)
-        × (Place.product-need d ≤ length (now tape)) × Tables (now logs) (now antilogs) ⌝ }
+    requires { ⌜ Factors-fit d (now a) (now b) (now tape) × (length (now output) ≡ suc d) × Tables (now logs) (now antilogs) ⌝ }
     ensures { λ k. ⌜ (k ≡ Place.product-need d)
         × (now (output .exit) ≡ Place.product Field.times d (now (a .entry)) (now (b .entry)) (now (tape .entry))) ⌝ }
 {

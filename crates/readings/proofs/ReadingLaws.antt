@@ -50,7 +50,8 @@ module _ (d : ℕ) (a b ts ps o s q : List ℕ) (made : Answer) (told : outcome 
   unfolding Sheet-outcome settled
   sheet-answered = outcome-answer made _ q s (sheet times d a b ts) told
 
-  pub reading-handed : (served d ≡ true → length s ≡ place-count d) → (r : Refusal) → made ≡ Refused r → outcome made o ≡ Reading-outcome d a b ts ps o
+  pub reading-handed : (served d ≡ true → length s ≡ place-count d) → (r : Refusal) → made ≡ Refused r
+      → outcome made o ≡ Reading-outcome d a b ts ps o
   unfolding Reading-outcome answered
   reading-handed room r e =
       settled-refused tests (took (product-need d)) o _ made
@@ -60,16 +61,19 @@ module _ (d : ℕ) (a b ts ps o s q : List ℕ) (made : Answer) (told : outcome 
 
   -- where it was made
   module _ (k : Count) (taken : made ≡ Taken k) where
-    known : Passed (Factor-tests (place-count d) d (length a) (length b) (length ts) (length s)) × (k ≡ took (product-need d)) × (q ≡ sheet times d a b ts)
+    known : Passed (Factor-tests (place-count d) d (length a) (length b) (length ts) (length s)) × (k ≡ took (product-need d))
+        × (q ≡ sheet times d a b ts)
     unfolding Sheet-outcome
     known =
-        settled-taken (Factor-tests (place-count d) d (length a) (length b) (length ts) (length s)) (took (product-need d)) s (sheet times d a b ts) k q
+        settled-taken (Factor-tests (place-count d) d (length a) (length b) (length ts) (length s)) (took (product-need d)) s
+        (sheet times d a b ts) k q
         (sym told ∙ ap (λ (x : Answer). outcome x q) taken)
 
     long : length q ≡ place-count d
     long = ap length (known .2) ∙ length-sheet times d a b ts
 
-    module _ (below : Bool) (so : below ≡ all-below (length q) ps) (answer : Answer) (asked : answer ≡ answered (Listed-tests d (length ps) (length o) below) k) where
+    module _ (below : Bool) (so : below ≡ all-below (length q) ps) (answer : Answer)
+        (asked : answer ≡ answered (Listed-tests d (length ps) (length o) below) k) where
       -- the reading's own answer is that of all its tests
       reading-answered : answer ≡ answered tests (took (product-need d))
       reading-answered = go (known .0)

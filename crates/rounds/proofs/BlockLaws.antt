@@ -47,9 +47,9 @@ round-made w d m nr i r keys tape s s′ er e =
 -- ---- the whole
 
 -- the keys' length, as the code counts it
-pub keys-long : (nk d n : ℕ) → n ≡ suc d * (16 * suc (rounds nk)) → n ≡ suc d * (16 * (nk + 6 + 1))
+pub keys-length : (nk d n : ℕ) → n ≡ suc d * (16 * suc (rounds nk)) → n ≡ suc d * (16 * (nk + 6 + 1))
 unfolding rounds
-keys-long nk d n e =
+keys-length nk d n e =
     let w : 16 * suc (rounds nk) ≡ 16 * (nk + 6 + 1) = omega arith in
     e ∙ ap (λ (l : ℕ). suc d * l) w
 

@@ -1,3 +1,1 @@
 pub mod BoxLaws
-pub mod EachLaws
-pub mod StageLaws

@@ -9,7 +9,7 @@ ghost use Rattle.gf256.specs.Tables.{Tables};
 ghost use Rattle.shares.specs.Outcome as Outcome;
 ghost use Rattle.shares.specs.Outcome.{outcome};
 ghost use Rattle.sbox.specs.Box;
-ghost use Rattle.sbox.specs.Fits.{Box-fits};
+ghost use Rattle.power254.specs.Fits.{Power-fits};
 ghost use Rattle.sbox.specs.Calls.{Box-outcome};
 use gf256::Antilogs;
 use gf256::Direction;
@@ -66,10 +66,10 @@ fn box_core(
     tape: &[u8],
     output: &mut [u8],
 ) -> usize
-    requires { ⌜ Box-fits d (now x) (now tape) (now output) × Tables (now logs) (now antilogs) ⌝ }
+    requires { ⌜ Power-fits d (now x) (now tape) (now output) × Tables (now logs) (now antilogs) ⌝ }
     ensures { λ r. ⌜ (r ≡ Box.box-need d) × (now (output .exit) ≡ Box.box d (now (x .entry)) (now (tape .entry))) ⌝ }
 {
-    let drawn = crate::powers::power_core(logs, antilogs, d, x, tape, output);
+    let drawn = power254::powers::power_core(logs, antilogs, d, x, tape, output);
     affine_shares(Direction::Forward, d, output);
     drawn
 }
@@ -83,11 +83,11 @@ fn inverse_box_core(
     tape: &[u8],
     output: &mut [u8],
 ) -> usize
-    requires { ⌜ Box-fits d (now x) (now tape) (now output) × Tables (now logs) (now antilogs) ⌝ }
+    requires { ⌜ Power-fits d (now x) (now tape) (now output) × Tables (now logs) (now antilogs) ⌝ }
     ensures { λ r. ⌜ (r ≡ Box.box-need d) × (now (output .exit) ≡ Box.inverse-box d (now (x .entry)) (now (tape .entry))) ⌝ }
 {
     affine_shares(Direction::Inverse, d, x);
-    crate::powers::power_core(logs, antilogs, d, x, tape, output)
+    power254::powers::power_core(logs, antilogs, d, x, tape, output)
 }
 
 // The S-box of the direction; the shares in x may be used up. Answers with how many bytes were drawn.
@@ -100,7 +100,7 @@ pub fn box_of(
     tape: &[u8],
     output: &mut [u8],
 ) -> usize
-    requires { ⌜ Box-fits d (now x) (now tape) (now output) × Tables (now logs) (now antilogs) ⌝ }
+    requires { ⌜ Power-fits d (now x) (now tape) (now output) × Tables (now logs) (now antilogs) ⌝ }
     ensures { λ r. ⌜ (r ≡ Box.box-need d) × (now (output .exit) ≡ Box.box-of which d (now (x .entry)) (now (tape .entry))) ⌝ }
 {
     match which {

@@ -119,7 +119,8 @@ settled-taken ts k o made c q e = go (answered ts k) refl e
 
 -- the refusal that a number stands for
 abbrev refusal : ℕ → Refusal
-refusal n = cond (eqb n 1) Order (cond (eqb n 2) Key (cond (eqb n 3) Input (cond (eqb n 4) Output (cond (eqb n 5) Tape (cond (eqb n 6) Listed Place)))))
+refusal n = cond (eqb n 1) Order
+    (cond (eqb n 2) Key (cond (eqb n 3) Input (cond (eqb n 4) Output (cond (eqb n 5) Tape (cond (eqb n 6) Listed Place)))))
 
 -- no two refusals have one number
 refusal-number : (r : Refusal) → refusal (number r) ≡ r

@@ -11,7 +11,7 @@ use Rattle.xor.specs.Lists.{at, tab, runs, All, done, _&_, Below}
 use Rattle.xor.specs.Sums.{joined}
 use Rattle.xor.proofs.ListsLaws.{length-tab, all-tab, all-drop, at-below, tab-last}
 use Rattle.xor.proofs.SumsLaws.{joined-set}
-use Rattle.xor.proofs.XorLaws.{xor-sums}
+use Rattle.xor.proofs.XorLaws.{xor-cancel-r, xor-sums}
 use Rattle.shares.specs.Refresh.{into, pairs-refreshed, refresh-pairs, refreshed, refresh-need}
 
 -- ---- one XOR into a share
@@ -49,7 +49,8 @@ length-pairs-refreshed (p ∷ ps) xs ts =
     length-pairs-refreshed ps (into (into xs (p .0) (at ts 0)) (p .1) (at ts 0)) (drop 1 ts)
     ∙ length-into (into xs (p .0) (at ts 0)) (p .1) (at ts 0) ∙ length-into xs (p .0) (at ts 0)
 
-pub pairs-refreshed-joins : (n : ℕ) {ps : List (ℕ × ℕ)} → All (Among n) ps → (xs ts : List ℕ) → length xs ≡ n → joined (pairs-refreshed ps xs ts) ≡ joined xs
+pub pairs-refreshed-joins : (n : ℕ) {ps : List (ℕ × ℕ)} → All (Among n) ps → (xs ts : List ℕ) → length xs ≡ n
+    → joined (pairs-refreshed ps xs ts) ≡ joined xs
 unfolding pairs-refreshed
 pairs-refreshed-joins n done xs ts e = refl
 pairs-refreshed-joins n (_&_ {x = p} h hs) xs ts e =
@@ -58,12 +59,10 @@ pairs-refreshed-joins n (_&_ {x = p} h hs) xs ts e =
     pairs-refreshed-joins n hs (into (into xs (p .0) (at ts 0)) (p .1) (at ts 0)) (drop 1 ts) (l₂ ∙ l₁ ∙ e)
     ∙ joined-into (into xs (p .0) (at ts 0)) (p .1) (at ts 0) (omega arith)
     ∙ ap (λ (x : ℕ). bitXor x (at ts 0)) (joined-into xs (p .0) (at ts 0) (omega arith))
-    ∙ twice (joined xs) (at ts 0)
-  where
-    twice : (x t : ℕ) → bitXor (bitXor x t) t ≡ x
-    twice x t = simp xor-sums
+    ∙ xor-cancel-r (joined xs) (at ts 0)
 
-pub pairs-refreshed-below : (w : ℕ) (ps : List (ℕ × ℕ)) {xs ts : List ℕ} → Below (2 ^ w) xs → Below (2 ^ w) ts → Below (2 ^ w) (pairs-refreshed ps xs ts)
+pub pairs-refreshed-below : (w : ℕ) (ps : List (ℕ × ℕ)) {xs ts : List ℕ} → Below (2 ^ w) xs → Below (2 ^ w) ts
+    → Below (2 ^ w) (pairs-refreshed ps xs ts)
 unfolding pairs-refreshed
 pairs-refreshed-below w [] hs gs = hs
 pairs-refreshed-below w (p ∷ ps) {xs} {ts} hs gs =
@@ -81,9 +80,11 @@ unfolding pairs-refreshed
 pairs-refreshed-last [] p xs ts = refl
 pairs-refreshed-last (q ∷ ps) p xs ts =
     pairs-refreshed-last ps p (into (into xs (q .0) (at ts 0)) (q .1) (at ts 0)) (drop 1 ts)
-    ∙ ap (λ (t : ℕ). into (into (pairs-refreshed ps (into (into xs (q .0) (at ts 0)) (q .1) (at ts 0)) (drop 1 ts)) (p .0) t) (p .1) t) (next ts (length ps))
+    ∙ ap (λ (t : ℕ). into (into (pairs-refreshed ps (into (into xs (q .0) (at ts 0)) (q .1) (at ts 0)) (drop 1 ts)) (p .0) t) (p .1) t)
+    (next ts (length ps))
 
-pairs-refreshed-surplus : (ps : List (ℕ × ℕ)) (xs ts us : List ℕ) → length ps ≤ length ts → pairs-refreshed ps xs (ts ++ us) ≡ pairs-refreshed ps xs ts
+pairs-refreshed-surplus : (ps : List (ℕ × ℕ)) (xs ts us : List ℕ) → length ps ≤ length ts
+    → pairs-refreshed ps xs (ts ++ us) ≡ pairs-refreshed ps xs ts
 unfolding pairs-refreshed at
 pairs-refreshed-surplus [] xs ts us h = refl
 pairs-refreshed-surplus (p ∷ ps) xs [] us h = absurd (omega arith)
@@ -117,7 +118,8 @@ pairs-last k = tab-last (λ k. (0, suc k)) k
 
 -- one share more is refreshed: share i with the next drawn byte
 pub refresh-more : (k i : ℕ) (x xs ts : List ℕ) → x ≡ refreshed k xs ts → i ≡ suc k
-    → set (set x 0 (bitXor (getD x 0 0) (getD ts k 0))) i (bitXor (getD (set x 0 (bitXor (getD x 0 0) (getD ts k 0))) i 0) (getD ts k 0)) ≡ refreshed (k + 1) xs ts
+    → set (set x 0 (bitXor (getD x 0 0) (getD ts k 0))) i (bitXor (getD (set x 0 (bitXor (getD x 0 0) (getD ts k 0))) i 0) (getD ts k 0))
+    ≡ refreshed (k + 1) xs ts
 unfolding refreshed refresh-need into at
 refresh-more k i x xs ts e h =
     let l : length (refresh-pairs k) ≡ k = refresh-need-is k in

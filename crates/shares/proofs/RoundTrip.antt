@@ -16,7 +16,8 @@ use Rattle.shares.proofs.CallsLaws.{split-passed}
 use Rattle.shares.proofs.StringsLaws.{parts-laid, laid-length, shared-split, split-joins}
 
 -- laid out, cut again and joined
-pub split-laid-joins : (d : ℕ) (xs ts : List ℕ) → split-need d (length xs) ≤ length ts → joined-string (parts (suc d) (length xs) (laid (split d xs ts))) ≡ xs
+pub split-laid-joins : (d : ℕ) (xs ts : List ℕ) → split-need d (length xs) ≤ length ts
+    → joined-string (parts (suc d) (length xs) (laid (split d xs ts))) ≡ xs
 split-laid-joins d xs ts h = ap joined-string (parts-laid (shared-split d xs ts h)) ∙ split-joins d xs ts
 
 -- whatever `split` puts out, `join` at the same order makes the string of it again
@@ -30,7 +31,8 @@ split-then-join d k xs ts o shares p e h =
     let whole : length xs ≡ l = share-length-is 1 (length xs) (f .input) ∙ one-mul l in
     let enough : split-need d (length xs) ≤ length ts = subst (λ (m : ℕ). split-need d m ≤ length ts) (sym whole) (f .drawn) in
     let long : length shares ≡ suc d * l = ap length (g .2) ∙ laid-length (shared-split d xs ts enough) ∙ ap (λ (m : ℕ). suc d * m) whole in
-    let again : share-length (suc d) (length shares) ≡ l = ap (share-length (suc d)) long ∙ share-length-laid (suc d) 1 (length xs) (omega arith) (f .input) in
+    let again : share-length (suc d) (length shares) ≡ l =
+    ap (share-length (suc d)) long ∙ share-length-laid (suc d) 1 (length xs) (omega arith) (f .input) in
     let back : joined-string (parts (suc d) (share-length (suc d) (length shares)) shares) ≡ xs =
     ap₂ (λ (m : ℕ) (s : List ℕ). joined-string (parts (suc d) m s)) (again ∙ sym whole) (g .2) ∙ split-laid-joins d xs ts enough in
     let some : 1 ≤ share-length (suc d) (length shares) = rw again (f .input) in

@@ -44,7 +44,8 @@ over-none f o = refl
 
 pub over-more : (f : ℕ → ℕ) (k v : ℕ) (y o : List ℕ) → y ≡ over f k o → v ≡ f k → k < length o → set y k v ≡ over f (k + 1) o
 unfolding over
-over-more f k v y o e w h = rw (e, w, add-one, drop-cons o k 0, set-at (tab f k) (getD o k 0) (drop (suc k) o) (f k) k (length-tab f k)) (last f k (drop (suc k) o))
+over-more f k v y o e w h =
+    rw (e, w, add-one, drop-cons o k 0, set-at (tab f k) (getD o k 0) (drop (suc k) o) (f k) k (length-tab f k)) (last f k (drop (suc k) o))
   where
     last : (f : ℕ → ℕ) (k : ℕ) (r : List ℕ) → tab f k ++ (f k ∷ r) ≡ tab f (suc k) ++ r
     last f k r = sym (ap (λ (l : List ℕ). l ++ r) (tab-last f k) ∙ append-assoc (tab f k) (f k ∷ []) r)
@@ -93,7 +94,18 @@ front-part k y q o vs before next e l h p g =
     let t : take k y ≡ before = rw (e, l) (take-at before (drop k o) k l) in
     let m : length (drop k o) ≤ length y - k = omega (arith, length-drop k o) in
     let s : length next ≡ k + length vs = rw (sym g) (length-append before vs ∙ ap (λ (x : ℕ). x + length vs) l) in
-    rw (p, t, r, take-all (length y - k) (drop k o) m, drop-of-length-le (drop k o) {i = length y - k} m, append-nil, drop-drop, s, sym g, append-assoc) refl
+    rw (
+      p,
+      t,
+      r,
+      take-all (length y - k) (drop k o) m,
+      drop-of-length-le (drop k o) {i = length y - k} m,
+      append-nil,
+      drop-drop,
+      s,
+      sym g,
+      append-assoc,
+    ) refl
 
 -- what a callee made of the bytes that are written already
 pub front-first : (k : ℕ) (y q o vs : List ℕ) → y ≡ front vs o → length vs ≡ k → length q ≡ k → putMid 0 (k - 0) y q ≡ front q o

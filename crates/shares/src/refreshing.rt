@@ -1,6 +1,6 @@
 // Mask refresh: new shares of the same byte.
 ghost use mathlib.Core.Path.{_≡_};
-ghost use Prim.Native.Nat.{_+_, _≤_, _<_};
+ghost use Prim.Native.Nat.{suc, _≤_, _<_};
 ghost use lib.ListN.{length};
 ghost use Rattle.xor.specs.Lists.{at, tab};
 ghost use Rattle.shares.specs.Outcome.{outcome, answered, took};
@@ -25,7 +25,7 @@ fn refresh_with(d: usize, tape: &[u8], first: &mut [u8], x: &mut [u8]) -> usize
     requires { ⌜ (d < length (now x)) × (d < length (now first)) × (Refresh.refresh-need d ≤ length (now tape)) ⌝ }
     ensures { λ r. ⌜ (r ≡ Refresh.refresh-need d)
         × (now (first .exit)
-        ≡ front (tab (λ k. at (Refresh.refreshed k (now (x .entry)) (now (tape .entry))) 0) (d + 1)) (now (first .entry)))
+        ≡ front (tab (λ k. at (Refresh.refreshed k (now (x .entry)) (now (tape .entry))) 0) (suc d)) (now (first .entry)))
         × (now (x .exit) ≡ Refresh.refreshed d (now (x .entry)) (now (tape .entry))) ⌝ }
 {
     let mut drawn: usize = 0;

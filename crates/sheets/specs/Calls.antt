@@ -1,4 +1,5 @@
--- The outcome of a product's sheet on every input, refusals included. Document 01, "Turned-down calls", decides. Assumes nothing: these are definitions.
+-- The outcome of a product's sheet on every input, refusals included. Document 01, "Turned-down calls", decides.
+-- Assumes nothing: these are definitions.
 use mathlib.Core.List.{List}
 use Prim.Native.Nat.{ℕ}
 use lib.ListN.{length}

@@ -12,7 +12,7 @@ use Rattle.lengths.specs.Lengths.{prepared-words}
 use Rattle.lengths.proofs.LengthsLaws.{prepared-long}
 use Rattle.lengths.proofs.PreviewsLaws.{block-through}
 use Rattle.aes.specs.Calls.{Encrypt-prepared-outcome}
-use Rattle.aes.proofs.CallsLaws.{keys-long, encrypted-with-made}
+use Rattle.aes.proofs.CallsLaws.{prepared-keys-length, encrypted-with-made}
 use Rattle.aes.proofs.preparation.encrypt_prepared.Statement.{statement}
 use Rattle.aes.proofs.preparation.encrypt_prepared.Tie as tie
 
@@ -34,7 +34,8 @@ prepared-words-requires c κs =
     let q = c .before .before in
     let a = q .before .before .before .before .before .args in
     let nk = prepared-words (a .order) (length (now (a .prepared))) in
-    block-through nk (encrypted-with-need nk (a .order)) (a .order) (length (now (a .input))) (length (now (a .tape))) (length (now (a .output))) _ _ _
+    block-through nk (encrypted-with-need nk (a .order)) (a .order) (length (now (a .input))) (length (now (a .tape)))
+    (length (now (a .output))) _ _ _
     (q .prepared-answer .ensures) (c .enum-told .given .1) .order
 
 logs-requires : tie.Need-logs-requires
@@ -52,14 +53,15 @@ rounds-core-requires c κs =
     let q = told .before .before in
     let a = q .before .before .before .before .before .args in
     let nk = prepared-words (a .order) (length (now (a .prepared))) in
-    let t = block-through nk (encrypted-with-need nk (a .order)) (a .order) (length (now (a .input))) (length (now (a .tape))) (length (now (a .output))) _ _ _
+    let t = block-through nk (encrypted-with-need nk (a .order)) (a .order) (length (now (a .input))) (length (now (a .tape)))
+    (length (now (a .output))) _ _ _
     (q .prepared-answer .ensures) (told .enum-told .given .1)
     in
     let w = words .prepared-words .ensures in (
       record {
         order = t .order;
         small = w .1;
-        keyed = rw (w .0) (keys-long _ (a .order) _ (prepared-long (a .order) (length (now (a .prepared))) (t .some)));
+        keyed = rw (w .0) (prepared-keys-length _ (a .order) _ (prepared-long (a .order) (length (now (a .prepared))) (t .some)));
         input = t .input;
         output = t .output;
         drawn = rw (w .0) (t .drawn);

@@ -11,7 +11,7 @@ use Rattle.cipher.specs.Cipher.{schedule-need, prepared-laid}
 use Rattle.lengths.proofs.LengthsLaws.{key-length}
 use Rattle.lengths.proofs.PreviewsLaws.{preparation-through}
 use Rattle.aes.specs.Calls.{Prepare-outcome}
-use Rattle.aes.proofs.CallsLaws.{keys-long, prepared-made}
+use Rattle.aes.proofs.CallsLaws.{prepared-keys-length, prepared-made}
 use Rattle.aes.proofs.preparation.prepare.Statement.{statement}
 use Rattle.aes.proofs.preparation.prepare.Tie as tie
 
@@ -58,7 +58,7 @@ expand-core-requires c κs =
         some = rw (w .0) (t .some);
         small = w .1;
         long = rw (w .0) (key-length (a .order) (length (now (a .key))) (t .some));
-        keyed = rw (w .0) (keys-long _ (a .order) _ (t .output));
+        keyed = rw (w .0) (prepared-keys-length _ (a .order) _ (t .output));
         drawn = rw (w .0) (t .drawn);
       },
       lent (logs .logs .ensures) (antilogs .antilogs .ensures),
@@ -79,7 +79,8 @@ returns-2 c =
     let made = core .expand-core .ensures in
     settled-done _ _ _ _ _ (q .preparation-answer .ensures) _ _ _ (told .enum-told .given .1)
     (ap took (made .0 ∙ ap (λ (n : ℕ). schedule-need n (a .order)) w))
-    (prepared-made _ (a .order) (now (a .key)) (now (a .tape)) _ (made .1) ∙ ap (λ (n : ℕ). prepared-laid n (a .order) (now (a .key)) (now (a .tape))) w)
+    (prepared-made _ (a .order) (now (a .key)) (now (a .tape)) _ (made .1)
+    ∙ ap (λ (n : ℕ). prepared-laid n (a .order) (now (a .key)) (now (a .tape))) w)
 
 pub prepare-spec : {M : Type 1} → statement M
 prepare-spec =

@@ -2,7 +2,7 @@
 use mathlib.Core.Path.{_∙_}
 use borrow.Author.Needs.{needs}
 use Rattle.shares.proofs.WriteLaws.{length-part-first}
-use Rattle.aes.proofs.CallsLaws.{keys-long}
+use Rattle.aes.proofs.CallsLaws.{prepared-keys-length}
 use Rattle.aes.proofs.single.block_core.Statement.{statement}
 use Rattle.aes.proofs.single.block_core.Tie as tie
 
@@ -24,7 +24,7 @@ block-with-requires c κs =
     let a = first .before .before .before .before .before .args in
     let size = first .prepared-length in
     let room = length-part-first _ (size .result) (size .ensures .1) in
-    (search needs, room ∙ keys-long (a .nk) (a .d) _ (size .ensures .0), search needs)
+    (search needs, room ∙ prepared-keys-length (a .nk) (a .d) _ (size .ensures .0), search needs)
 
 same-length : tie.Need-same-length
 same-length c = search needs

@@ -55,7 +55,8 @@ block-core-requires c κs =
     let q = told .before .before in
     let a = q .before .before .before .before .before .args in
     let nk = key-words (a .order) (length (now (a .key))) in
-    let t = block-through nk (cipher-need nk (a .order)) (a .order) (length (now (a .input))) (length (now (a .tape))) (length (now (a .output))) _ _ _
+    let t = block-through nk (cipher-need nk (a .order)) (a .order) (length (now (a .input))) (length (now (a .tape)))
+    (length (now (a .output))) _ _ _
     (q .single-answer .ensures) (told .enum-told .given .1)
     in
     let w = words .key-words .ensures in (

@@ -15,11 +15,13 @@ use Rattle.dokkumel.proofs.decimal.read.Statement.{statement}
 use Rattle.dokkumel.proofs.decimal.read.Tie as tie
 
 -- one character more
-more-number : (t : List ℕ) (k v w n : ℕ) → w ≡ appended v (getD t k 0) → number-from v (drop k t) ≡ n → k < length t → number-from w (drop (k + 1) t) ≡ n
+more-number : (t : List ℕ) (k v w n : ℕ) → w ≡ appended v (getD t k 0) → number-from v (drop k t) ≡ n → k < length t
+    → number-from w (drop (k + 1) t) ≡ n
 unfolding number-from
 more-number t k v w n e f h = rw (e, add-one) (sym (ap (number-from v) (drop-cons t k 0 h)) ∙ f)
 
-more-decimal : (t : List ℕ) (k : ℕ) (a b r : Bool) → b ≡ cond a (is-decimal (getD t k 0)) false → decimal-from a (drop k t) ≡ r → k < length t → decimal-from b (drop (k + 1) t) ≡ r
+more-decimal : (t : List ℕ) (k : ℕ) (a b r : Bool) → b ≡ cond a (is-decimal (getD t k 0)) false → decimal-from a (drop k t) ≡ r → k < length t
+    → decimal-from b (drop (k + 1) t) ≡ r
 unfolding decimal-from
 more-decimal t k a b r e f h = rw (e, add-one) (sym (ap (decimal-from a) (drop-cons t k 0 h)) ∙ f)
 
@@ -33,7 +35,9 @@ unfolding decimal-from
 all-decimal t k a r f h = sym (ap (decimal-from a) (drop-of-length-le t {i = k} h)) ∙ f
 
 abbrev Inv-loop : tie.InvT-loop
-Inv-loop text n₀ k₀ k-end n k = (k ≤ k-end) × (k-end ≡ length text) × (decimal-from (n .good) (drop k text) ≡ decimal-from (ltb 0 (length text)) text) × (number-from (n .value) (drop k text) ≡ number-from 0 text)
+Inv-loop text n₀ k₀ k-end n k =
+    (k ≤ k-end) × (k-end ≡ length text) × (decimal-from (n .good) (drop k text) ≡ decimal-from (ltb 0 (length text)) text)
+    × (number-from (n .value) (drop k text) ≡ number-from 0 text)
 
 abbrev μ-loop : tie.MeasureT-loop
 μ-loop text n₀ k₀ k-end n k = k-end - k
@@ -56,8 +60,12 @@ loop-less c = search needs
 loop-again : tie.Need-loop-again Inv-loop μ-loop
 loop-again c =
     let t = now (c .before .before .before .before .before .args .text) in
-    let l = c .before .before .before .loop in
-    (omega arith, search needs, more-decimal t (l .k) _ _ _ (c .followed .ensures .0) (l .inv .2) (omega arith), more-number t (l .k) _ _ _ (c .followed .ensures .1) (l .inv .3) (omega arith))
+    let l = c .before .before .before .loop in (
+      omega arith,
+      search needs,
+      more-decimal t (l .k) _ _ _ (c .followed .ensures .0) (l .inv .2) (omega arith),
+      more-number t (l .k) _ _ _ (c .followed .ensures .1) (l .inv .3) (omega arith),
+    )
 
 returns : tie.Need-returns Inv-loop μ-loop
 returns c =

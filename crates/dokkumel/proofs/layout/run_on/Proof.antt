@@ -17,13 +17,16 @@ returns : tie.Need-returns
 returns c = search needs
 
 print-requires : tie.Need-print-requires
-print-requires c κs = (served-bounds (c .before .before .before .args .order) (sym (c .before .before .served .ensures) ∙ not-false _ (c .before .if1 .left)) .1, four)
+print-requires c κs =
+    (served-bounds (c .before .before .before .args .order) (sym (c .before .before .served .ensures) ∙ not-false _ (c .before .if1 .left)) .1, four)
 
 print-requires-2 : tie.Need-print-requires-2
-print-requires-2 c κs = (served-bounds (c .before .before .before .args .order) (sym (c .before .before .served .ensures) ∙ not-false _ (c .before .if1 .left)) .1, six)
+print-requires-2 c κs =
+    (served-bounds (c .before .before .before .args .order) (sym (c .before .before .served .ensures) ∙ not-false _ (c .before .if1 .left)) .1, six)
 
 print-requires-3 : tie.Need-print-requires-3
-print-requires-3 c κs = (served-bounds (c .before .before .before .args .order) (sym (c .before .before .served .ensures) ∙ not-false _ (c .before .if1 .left)) .1, eight)
+print-requires-3 c κs =
+    (served-bounds (c .before .before .before .args .order) (sym (c .before .before .served .ensures) ∙ not-false _ (c .before .if1 .left)) .1, eight)
 
 print-refused-requires-2 : tie.Need-print-refused-requires-2
 print-refused-requires-2 c κs = search needs

@@ -38,16 +38,25 @@ preview-encrypt-prepared-requires : tie.Need-preview-encrypt-prepared-requires
 preview-encrypt-prepared-requires c κs = search needs
 
 returns : tie.Need-returns
-returns c = let a = c .before .before .before .args in told (a .route) Encrypt (a .order) (a .key) (a .input) (a .tape) (a .output) _ (c .preview-encrypt .ensures) (c .before .enum-told .given .1)
+returns c = let a =
+    c .before .before .before .args in
+    told (a .route) Encrypt (a .order) (a .key) (a .input) (a .tape) (a .output) _ (c .preview-encrypt .ensures) (c .before .enum-told .given .1)
 
 returns-2 : tie.Need-returns-2
-returns-2 c = let a = c .before .before .before .args in told (a .route) Decrypt (a .order) (a .key) (a .input) (a .tape) (a .output) _ (c .preview-decrypt .ensures) (c .before .enum-told2 .given .1)
+returns-2 c = let a =
+    c .before .before .before .args in
+    told (a .route) Decrypt (a .order) (a .key) (a .input) (a .tape) (a .output) _ (c .preview-decrypt .ensures) (c .before .enum-told2 .given .1)
 
 returns-3 : tie.Need-returns-3
-returns-3 c = let a = c .before .before .before .args in told (a .route) Prepare (a .order) (a .key) (a .input) (a .tape) (a .output) _ (c .preview-prepare .ensures) (c .before .enum-told3 .given .1)
+returns-3 c = let a =
+    c .before .before .before .args in
+    told (a .route) Prepare (a .order) (a .key) (a .input) (a .tape) (a .output) _ (c .preview-prepare .ensures) (c .before .enum-told3 .given .1)
 
 returns-4 : tie.Need-returns-4
-returns-4 c = let a = c .before .before .before .args in told (a .route) EncryptPrepared (a .order) (a .key) (a .input) (a .tape) (a .output) _ (c .preview-encrypt-prepared .ensures) (c .before .enum-told4 .given .1)
+returns-4 c = let a =
+    c .before .before .before .args in
+    told (a .route) EncryptPrepared (a .order) (a .key) (a .input) (a .tape) (a .output) _ (c .preview-encrypt-prepared .ensures)
+    (c .before .enum-told4 .given .1)
 
 pub foretold-spec : {M : Type 1} → statement M
 foretold-spec =

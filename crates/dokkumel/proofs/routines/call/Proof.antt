@@ -8,7 +8,8 @@ use denote.Ref.{now}
 use types.Run.{OneOf, miss}
 use Rattle.shares.specs.Outcome.{Outcome, refused}
 use Rattle.dokkumel.specs.declared.commands.Command.{Command}
-use Rattle.dokkumel.specs.declared.commands.Command.the-variants.{Encrypt, Decrypt, Prepare, EncryptPrepared, Split, Join, Refresh, Product, Sbox, Read, Sheet, Places, Tape, Preview, Help, Unknown}
+use Rattle.dokkumel.specs.declared.commands.Command.the-variants.{Encrypt, Decrypt, Prepare, EncryptPrepared, Split, Join, Refresh, Product}
+use Rattle.dokkumel.specs.declared.commands.Command.the-variants.{Sbox, Read, Sheet, Places, Tape, Preview, Help, Unknown}
 use Rattle.dokkumel.proofs.commands.Command.{the-type}
 use Rattle.dokkumel.specs.Called.{called}
 use Rattle.dokkumel.proofs.routines.call.Statement.{statement}
@@ -98,58 +99,87 @@ same-length : tie.Need-same-length
 same-length c = search needs
 
 returns : tie.Need-returns
-returns c = let a = c .before .before .before .before .before .before .before .before .before .before .args in told (a .c) Encrypt (a .order) (now (a .first)) (now (a .second)) (now (a .tape)) (now (a .output)) _ (c .before .before .encrypt .ensures) (c .before .before .before .before .enum-told .given .1)
+returns c = let a =
+    c .before .before .before .before .before .before .before .before .before .before .args in
+    told (a .c) Encrypt (a .order) (now (a .first)) (now (a .second)) (now (a .tape)) (now (a .output)) _ (c .before .before .encrypt .ensures)
+    (c .before .before .before .before .enum-told .given .1)
 
 same-length-2 : tie.Need-same-length-2
 same-length-2 c = search needs
 
 returns-2 : tie.Need-returns-2
-returns-2 c = let a = c .before .before .before .before .before .before .before .before .before .before .args in told (a .c) Decrypt (a .order) (now (a .first)) (now (a .second)) (now (a .tape)) (now (a .output)) _ (c .before .before .decrypt .ensures) (c .before .before .before .before .enum-told2 .given .1)
+returns-2 c = let a =
+    c .before .before .before .before .before .before .before .before .before .before .args in
+    told (a .c) Decrypt (a .order) (now (a .first)) (now (a .second)) (now (a .tape)) (now (a .output)) _ (c .before .before .decrypt .ensures)
+    (c .before .before .before .before .enum-told2 .given .1)
 
 same-length-3 : tie.Need-same-length-3
 same-length-3 c = search needs
 
 returns-3 : tie.Need-returns-3
-returns-3 c = let a = c .before .before .before .before .before .before .before .before .before .before .args in told (a .c) Prepare (a .order) (now (a .first)) (now (a .second)) (now (a .tape)) (now (a .output)) _ (c .before .before .prepare .ensures) (c .before .before .before .before .enum-told3 .given .1)
+returns-3 c = let a =
+    c .before .before .before .before .before .before .before .before .before .before .args in
+    told (a .c) Prepare (a .order) (now (a .first)) (now (a .second)) (now (a .tape)) (now (a .output)) _ (c .before .before .prepare .ensures)
+    (c .before .before .before .before .enum-told3 .given .1)
 
 same-length-4 : tie.Need-same-length-4
 same-length-4 c = search needs
 
 returns-4 : tie.Need-returns-4
-returns-4 c = let a = c .before .before .before .before .before .before .before .before .before .before .args in told (a .c) EncryptPrepared (a .order) (now (a .first)) (now (a .second)) (now (a .tape)) (now (a .output)) _ (c .before .before .encrypt-prepared .ensures) (c .before .before .before .before .enum-told4 .given .1)
+returns-4 c = let a =
+    c .before .before .before .before .before .before .before .before .before .before .args in
+    told (a .c) EncryptPrepared (a .order) (now (a .first)) (now (a .second)) (now (a .tape)) (now (a .output)) _
+    (c .before .before .encrypt-prepared .ensures) (c .before .before .before .before .enum-told4 .given .1)
 
 same-length-5 : tie.Need-same-length-5
 same-length-5 c = search needs
 
 returns-5 : tie.Need-returns-5
-returns-5 c = let a = c .before .before .before .before .before .before .before .before .before .before .args in told (a .c) Split (a .order) (now (a .first)) (now (a .second)) (now (a .tape)) (now (a .output)) _ (c .before .before .split .ensures) (c .before .before .before .before .enum-told5 .given .1)
+returns-5 c = let a =
+    c .before .before .before .before .before .before .before .before .before .before .args in
+    told (a .c) Split (a .order) (now (a .first)) (now (a .second)) (now (a .tape)) (now (a .output)) _ (c .before .before .split .ensures)
+    (c .before .before .before .before .enum-told5 .given .1)
 
 same-length-6 : tie.Need-same-length-6
 same-length-6 c = search needs
 
 returns-6 : tie.Need-returns-6
-returns-6 c = let a = c .before .before .before .before .before .before .before .before .before .before .args in told (a .c) Join (a .order) (now (a .first)) (now (a .second)) (now (a .tape)) (now (a .output)) _ (c .before .before .join .ensures) (c .before .before .before .before .enum-told6 .given .1)
+returns-6 c = let a =
+    c .before .before .before .before .before .before .before .before .before .before .args in
+    told (a .c) Join (a .order) (now (a .first)) (now (a .second)) (now (a .tape)) (now (a .output)) _ (c .before .before .join .ensures)
+    (c .before .before .before .before .enum-told6 .given .1)
 
 same-length-7 : tie.Need-same-length-7
 same-length-7 c = search needs
 
 returns-7 : tie.Need-returns-7
-returns-7 c = let a = c .before .before .before .before .before .before .before .before .before .before .args in told (a .c) Refresh (a .order) (now (a .first)) (now (a .second)) (now (a .tape)) (now (a .output)) _ (c .before .before .refresh .ensures) (c .before .before .before .before .enum-told7 .given .1)
+returns-7 c = let a =
+    c .before .before .before .before .before .before .before .before .before .before .args in
+    told (a .c) Refresh (a .order) (now (a .first)) (now (a .second)) (now (a .tape)) (now (a .output)) _ (c .before .before .refresh .ensures)
+    (c .before .before .before .before .enum-told7 .given .1)
 
 same-length-8 : tie.Need-same-length-8
 same-length-8 c = search needs
 
 returns-8 : tie.Need-returns-8
-returns-8 c = let a = c .before .before .before .before .before .before .before .before .before .before .args in told (a .c) Product (a .order) (now (a .first)) (now (a .second)) (now (a .tape)) (now (a .output)) _ (c .before .before .masked-product .ensures) (c .before .before .before .before .enum-told8 .given .1)
+returns-8 c = let a =
+    c .before .before .before .before .before .before .before .before .before .before .args in
+    told (a .c) Product (a .order) (now (a .first)) (now (a .second)) (now (a .tape)) (now (a .output)) _ (c .before .before .masked-product .ensures)
+    (c .before .before .before .before .enum-told8 .given .1)
 
 same-length-9 : tie.Need-same-length-9
 same-length-9 c = search needs
 
 returns-9 : tie.Need-returns-9
-returns-9 c = let a = c .before .before .before .before .before .before .before .before .before .before .args in told (a .c) Sbox (a .order) (now (a .first)) (now (a .second)) (now (a .tape)) (now (a .output)) _ (c .before .before .masked-box .ensures) (c .before .before .before .before .enum-told9 .given .1)
+returns-9 c = let a =
+    c .before .before .before .before .before .before .before .before .before .before .args in
+    told (a .c) Sbox (a .order) (now (a .first)) (now (a .second)) (now (a .tape)) (now (a .output)) _ (c .before .before .masked-box .ensures)
+    (c .before .before .before .before .enum-told9 .given .1)
 
 returns-10 : tie.Need-returns-10
-returns-10 c = let a = c .before .before .before .before .before .args in sym (others (a .c) (c .match .keys10) (a .order) (now (a .first)) (now (a .second)) (now (a .tape)) (now (a .output)))
+returns-10 c = let a =
+    c .before .before .before .before .before .args in
+    sym (others (a .c) (c .match .keys10) (a .order) (now (a .first)) (now (a .second)) (now (a .tape)) (now (a .output)))
 
 pub call-spec : {M : Type 1} → statement M
 call-spec =

@@ -22,7 +22,10 @@ returns : tie.Need-returns
 returns c = λ q. sym (ap (λ (a : Answer). returned (outcome a q) (now (c .before .before .before .args .taken))) (c .before .answer .given .1))
 
 returns-2 : tie.Need-returns-2
-returns-2 c = λ q. ap (λ (n : ℕ). gives n (now (c .before .before .before .before .args .taken)) q) (c .number .ensures) ∙ sym (ap (λ (a : Answer). returned (outcome a q) (now (c .before .before .before .before .args .taken))) (c .before .before .answer2 .given .1))
+returns-2 c =
+    let start = c .before .before .before .before in
+    λ q. ap (λ (n : ℕ). gives n (now (start .args .taken)) q) (c .number .ensures)
+    ∙ sym (ap (λ (a : Answer). returned (outcome a q) (now (start .args .taken))) (c .before .before .answer2 .given .1))
 
 pub returned-spec : {M : Type 1} → statement M
 returned-spec =

@@ -15,14 +15,16 @@ unused-tape-requires c κs = search needs
 
 sub-result : tie.Need-sub-result
 sub-result c =
+    let start = c .before .before in
     let e = ap length (c .unused-tape .ensures) in
-    let h = rest-fits (now (c .before .before .args .tape)) (c .before .before .args .count) in
+    let h = rest-fits (now (start .args .tape)) (start .args .count) in
     omega arith
 
 returns : tie.Need-returns
 returns c =
-    ap (λ (l : List ℕ). length (now (c .before .before .args .tape)) - length l) (c .unused-tape .ensures)
-    ∙ before-rest (now (c .before .before .args .tape)) (c .before .before .args .count)
+    let start = c .before .before in
+    ap (λ (l : List ℕ). length (now (start .args .tape)) - length l) (c .unused-tape .ensures)
+    ∙ before-rest (now (start .args .tape)) (start .args .count)
 
 pub dokkumel-unused-tape-spec : {M : Type 1} → statement M
 dokkumel-unused-tape-spec = tie.close (tie.spec unused-tape-requires sub-result returns)

@@ -34,14 +34,16 @@ unfolding affine rows
 returns c =
     let a = c .before .before .before .before .before .args .a in
     let told = c .before .before .enum-told .given .1 in
-    c .by-rows .ensures ∙ ap (λ (k : ℕ). affine-by rows k a) (c .before .before .before .before .constant .ensures ∙ ap constant-of told) ∙ sym (ap (λ (w : Direction). affine-of w a) told)
+    c .by-rows .ensures ∙ ap (λ (k : ℕ). affine-by rows k a) (c .before .before .before .before .constant .ensures ∙ ap constant-of told)
+    ∙ sym (ap (λ (w : Direction). affine-of w a) told)
 
 returns-2 : tie.Need-returns-2
 unfolding inverse-affine inverse-rows
 returns-2 c =
     let a = c .before .before .before .before .before .args .a in
     let told = c .before .before .enum-told2 .given .1 in
-    c .by-rows2 .ensures ∙ ap (λ (k : ℕ). affine-by inverse-rows k a) (c .before .before .before .before .constant .ensures ∙ ap constant-of told) ∙ sym (ap (λ (w : Direction). affine-of w a) told)
+    c .by-rows2 .ensures ∙ ap (λ (k : ℕ). affine-by inverse-rows k a) (c .before .before .before .before .constant .ensures ∙ ap constant-of told)
+    ∙ sym (ap (λ (w : Direction). affine-of w a) told)
 
 pub affine-spec : {M : Type 1} → statement M
 affine-spec =

@@ -34,7 +34,8 @@ placed d i h l =
 
 -- one turn
 turn : (rows : List ℕ) (r i a : ℕ) → i < length rows
-    → bitXor (bitXor r (if-set (parity (bitAnd a (getD rows i 0))) (2 ^ i))) (rows-from (drop (i + 1) rows) (i + 1) a) ≡ bitXor r (rows-from (drop i rows) i a)
+    → bitXor (bitXor r (if-set (parity (bitAnd a (getD rows i 0))) (2 ^ i))) (rows-from (drop (i + 1) rows) (i + 1) a)
+    ≡ bitXor r (rows-from (drop i rows) i a)
 unfolding rows-from
 turn rows r i a h =
     xor-assoc r (if-set (parity (bitAnd a (getD rows i 0))) (2 ^ i)) (rows-from (drop (i + 1) rows) (i + 1) a)
@@ -78,7 +79,8 @@ loop-again c =
     let rows = now (v .rows) in
     let m = bitAnd (v .a) (getD rows (at .i) 0) in (
       omega arith,
-      ap (λ (n : ℕ). bitXor (bitXor (at .r) n) (rows-from (drop (at .i + 1) rows) (at .i + 1) (v .a))) (placed (parity m) (at .i) (parity-lt m) (omega arith))
+      ap (λ (n : ℕ). bitXor (bitXor (at .r) n) (rows-from (drop (at .i + 1) rows) (at .i + 1) (v .a)))
+          (placed (parity m) (at .i) (parity-lt m) (omega arith))
           ∙ turn rows (at .r) (at .i) (v .a) (omega arith)
           ∙ at .inv .1,
     )

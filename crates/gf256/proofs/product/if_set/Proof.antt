@@ -9,7 +9,8 @@ wrapping-sub-u8-requires c κs = search needs
 
 returns : tie.Need-returns
 returns c =
-    masked-by (c .wrapping-sub-u8 .result) (c .before .args .bit) (c .before .args .a) (c .before .pre) (search needs) (search needs) (c .wrapping-sub-u8 .ensures)
+    masked-by (c .wrapping-sub-u8 .result) (c .before .args .bit) (c .before .args .a) (c .before .pre) (search needs) (search needs)
+    (c .wrapping-sub-u8 .ensures)
 
 pub if-set-spec : {M : Type 1} → statement M
 if-set-spec = tie.close (tie.spec wrapping-sub-u8-requires returns)

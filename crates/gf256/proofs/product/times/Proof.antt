@@ -47,8 +47,11 @@ loop-less c = omega arith
 loop-again : tie.Need-loop-again Inv-loop μ-loop
 loop-again c =
     let at = c .before .before .before .loop in
-    let start = c .before .before .before .before in
-    (omega arith, turn (start .args .a) (start .args .b) (at .k) _ (at .p) _ _ (start .fits .a .fits) (start .fits .b .fits) (omega arith) (at .inv .1) (c .double .ensures) (c .before .if-set .ensures))
+    let start = c .before .before .before .before in (
+      omega arith,
+      turn (start .args .a) (start .args .b) (at .k) _ (at .p) _ _ (start .fits .a .fits) (start .fits .b .fits) (omega arith) (at .inv .1)
+          (c .double .ensures) (c .before .if-set .ensures),
+    )
 
 returns : tie.Need-returns Inv-loop μ-loop
 returns c =

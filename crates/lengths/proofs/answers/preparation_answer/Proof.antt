@@ -53,8 +53,10 @@ schedule-need-requires c κs =
     let w = k .before in
     let o = w .before in
     let a = o .before .before .args in
-    let e = w .key-words .ensures .0 in
-    (served-bounds (a .order) (sym (o .before .served .ensures) ∙ not-false _ (o .if1 .left)) .1, subst Key-size (sym e) (key-sized (a .order) (a .key) (some-words _ _ e (k .if2 .left))))
+    let e = w .key-words .ensures .0 in (
+      served-bounds (a .order) (sym (o .before .served .ensures) ∙ not-false _ (o .if1 .left)) .1,
+      subst Key-size (sym e) (key-sized (a .order) (a .key) (some-words _ _ e (k .if2 .left))),
+    )
 
 returns-4 : tie.Need-returns-4
 returns-4 c =
@@ -86,7 +88,8 @@ returns-5 c =
     let need = n .schedule-need .ensures .0 ∙ ap (λ (n : ℕ). schedule-need n (a .order)) e in
     keyed-some _ _ _ _ _ _ e (sym (o .before .served .ensures) ∙ not-false _ (o .if1 .left)) (k .if2 .left)
     (answered-next _ _ _ _ (eq-eqb _ _ (r .if3 .left ∙ size))
-    (answered-next _ _ _ _ (ap (reaches (a .tape)) (sym need) ∙ le-reaches _ _ (c .if4 .left)) (ap (λ (n : ℕ). Taken (took n)) need ∙ answered-none _)))
+    (answered-next _ _ _ _ (ap (reaches (a .tape)) (sym need) ∙ le-reaches _ _ (c .if4 .left))
+    (ap (λ (n : ℕ). Taken (took n)) need ∙ answered-none _)))
 
 pub preparation-answer-spec : {M : Type 1} → statement M
 preparation-answer-spec =

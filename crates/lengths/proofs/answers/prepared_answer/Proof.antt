@@ -28,13 +28,15 @@ returns-2 c =
     let o = w .before in
     keyed-none _ _ _ _ _ (w .prepared-words .ensures .0) (sym (o .before .served .ensures) ∙ not-false _ (o .if1 .left)) (c .if2 .taken)
 
-rounds-need-requires : tie.Need-rounds-need-requires
-rounds-need-requires c κs =
+encrypted-with-need-requires : tie.Need-encrypted-with-need-requires
+encrypted-with-need-requires c κs =
     let w = c .before in
     let o = w .before in
     let a = o .before .before .args in
-    let e = w .prepared-words .ensures .0 in
-    (served-bounds (a .order) (sym (o .before .served .ensures) ∙ not-false _ (o .if1 .left)) .1, subst Key-size (sym e) (prepared-sized (a .order) (a .prepared) (some-words _ _ e (c .if2 .left))))
+    let e = w .prepared-words .ensures .0 in (
+      served-bounds (a .order) (sym (o .before .served .ensures) ∙ not-false _ (o .if1 .left)) .1,
+      subst Key-size (sym e) (prepared-sized (a .order) (a .prepared) (some-words _ _ e (c .if2 .left))),
+    )
 
 block-answer-requires : tie.Need-block-answer-requires
 block-answer-requires c κs =
@@ -50,7 +52,7 @@ returns-3 c =
     let a = o .before .before .args in
     let e = w .prepared-words .ensures .0 in
     let f = c .block-answer .ensures
-    ∙ ap (λ (m : ℕ). answered (Block-tests m (a .order) (a .input) (a .tape) (a .output)) (took m)) (n .rounds-need .ensures .0)
+    ∙ ap (λ (m : ℕ). answered (Block-tests m (a .order) (a .input) (a .tape) (a .output)) (took m)) (n .encrypted-with-need .ensures .0)
     in
     keyed-some _ _ _ _ _ _ e (sym (o .before .served .ensures) ∙ not-false _ (o .if1 .left)) (k .if2 .left)
     (block-answered _ _ (a .order) (a .input) (a .tape) (a .output) (λ m. encrypted-with-need m (a .order)) _ e f)
@@ -58,4 +60,4 @@ returns-3 c =
 pub prepared-answer-spec : {M : Type 1} → statement M
 prepared-answer-spec =
     tie.close
-    (tie.spec served-requires returns prepared-words-requires returns-2 rounds-need-requires block-answer-requires returns-3)
+    (tie.spec served-requires returns prepared-words-requires returns-2 encrypted-with-need-requires block-answer-requires returns-3)

@@ -33,8 +33,10 @@ cipher-need-requires c κs =
     let w = c .before in
     let o = w .before in
     let a = o .before .before .args in
-    let e = w .key-words .ensures .0 in
-    (served-bounds (a .order) (sym (o .before .served .ensures) ∙ not-false _ (o .if1 .left)) .1, subst Key-size (sym e) (key-sized (a .order) (a .key) (some-words _ _ e (c .if2 .left))))
+    let e = w .key-words .ensures .0 in (
+      served-bounds (a .order) (sym (o .before .served .ensures) ∙ not-false _ (o .if1 .left)) .1,
+      subst Key-size (sym e) (key-sized (a .order) (a .key) (some-words _ _ e (c .if2 .left))),
+    )
 
 block-answer-requires : tie.Need-block-answer-requires
 block-answer-requires c κs =

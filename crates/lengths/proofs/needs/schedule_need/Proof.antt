@@ -14,12 +14,19 @@ box-need-requires : tie.Need-box-need-requires
 box-need-requires c κs = search needs
 
 mul-result : tie.Need-mul-result
-mul-result c = omega (arith, ap₂ _*_ (c .before .key-boxes .ensures) (c .box-need .ensures), schedule-need-bound (c .before .before .args .d) (c .before .before .pre .1) (c .before .before .pre .0))
+mul-result c =
+    let start = c .before .before in
+    omega (
+      arith,
+      ap₂ _*_ (c .before .key-boxes .ensures) (c .box-need .ensures),
+      schedule-need-bound (start .args .d) (start .pre .1) (start .pre .0),
+    )
 
 returns : tie.Need-returns
 returns c =
+    let start = c .before .before in
     let e = ap₂ _*_ (c .before .key-boxes .ensures) (c .box-need .ensures) in
-    (e ∙ schedule-need-made (c .before .before .args .d) (c .before .before .pre .1), omega (arith, e, schedule-need-bound (c .before .before .args .d) (c .before .before .pre .1) (c .before .before .pre .0)))
+    (e ∙ schedule-need-made (start .args .d) (start .pre .1), omega (arith, e, schedule-need-bound (start .args .d) (start .pre .1) (start .pre .0)))
 
 pub schedule-need-spec : {M : Type 1} → statement M
 schedule-need-spec = tie.close (tie.spec key-boxes-requires box-need-requires mul-result returns)

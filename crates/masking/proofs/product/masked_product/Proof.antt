@@ -49,8 +49,11 @@ product-core-requires c κs =
     let e = factors-answered _ _ (v .order) (length (now (v .left))) (length (now (v .right))) (length (now (v .tape))) (length (now (v .output))) _ _
     (q .before .share-count .ensures .0) (q .factors-answer .ensures)
     in
-    let h = factors-through _ (v .order) _ _ _ _ _ _ _ e (told .enum-told .given .1) in
-    (h .order, h .output, h .left, h .right, h .drawn, lent (logs .logs .ensures) (antilogs .antilogs .ensures))
+    let h = factors-through _ (v .order) _ _ _ _ _ _ _ e (told .enum-told .given .1) in (
+      record { order = h .order; left = h .left; right = h .right; drawn = h .drawn },
+      h .output,
+      lent (logs .logs .ensures) (antilogs .antilogs .ensures),
+    )
 
 same-length : tie.Need-same-length
 same-length c = search needs

@@ -19,9 +19,9 @@ take-pairs-requires c κs =
     let top = start .before .before .before .before .before .before in
     let a = top .args in
     let p = top .pre in (
-      record { order = p .0; left = p .2; right = p .3; drawn = p .4 },
+      p .0,
       start .start-sums .ensures ∙ ap (starts (now (a .a)) (now (a .b))) (add-one (a .d)),
-      p .5,
+      p .2,
     )
 
 same-length : tie.Need-same-length

@@ -40,9 +40,9 @@ part-product-row-end c = search needs
 
 product-row-requires : tie.Need-product-row-requires Inv-loop μ-loop
 product-row-requires c κs =
-    let c₃ = c .before .before .before in
-    let s = c₃ .before .before .before .before .before in
-    let l = c₃ .loop in
+    let turn = c .before .before .before in
+    let s = turn .before .before .before .before .before in
+    let l = turn .loop in
     let v = s .args in
     let p = s .pre in
     let a = now (v .a) in
@@ -53,11 +53,11 @@ product-row-requires c κs =
 
 add-drawn : tie.Need-add-drawn Inv-loop μ-loop
 add-drawn c =
-    let c₅ = c .before .before .before .before .before in
-    let c₆ = c₅ .before in
-    let c₁₁ = c₆ .before .before .before .before .before in
-    let l = c₆ .loop in
-    let r = row-counts (c₁₁ .args .d) (l .i) (l .drawn) (c₅ .loop-test .taken) (l .inv .1) in
+    let at-loop-test = c .before .before .before .before .before in
+    let turn = at-loop-test .before in
+    let start = turn .before .before .before .before .before in
+    let l = turn .loop in
+    let r = row-counts (start .args .d) (l .i) (l .drawn) (at-loop-test .loop-test .taken) (l .inv .1) in
     omega (arith, c .before .before .product-row .ensures .0)
 
 add-i : tie.Need-add-i Inv-loop μ-loop

@@ -30,8 +30,8 @@ back-row-requires c κs =
 sum-row-requires : tie.Need-sum-row-requires
 sum-row-requires c κs =
     let back = c .before .before .before .before in
-    let c₁₅ = back .before .before .before .before .before .before .before .before .before .before .before in
-    let p = c₁₅ .before .before .before .before .before .before .before .before .before .before .before .before .pre in
+    let p = back .before .before .before .before .before .before .before .before .before .before .before .before .before .before .before .before
+    .before .before .before .before .before .before .before .pre in
     let f = p .0 in
     record {
       some = f .some;
@@ -62,17 +62,16 @@ same-length-6 c = search needs
 
 returns : tie.Need-returns
 returns c =
-    let c₄ = c .before .before .before .before in
-    let c₁₂ = c₄ .before .before .before .before .before .before .before .before in
-    let c₂₀ = c₁₂ .before .before .before .before .before .before .before .before in
-    let c₃₂ = c₂₀ .before .before .before .before .before .before .before .before .before .before .before .before in
-    let v = c₃₂ .args in
+    let at-sum-row = c .before .before .before .before in
+    let at-back-row = at-sum-row .before .before .before .before .before .before .before .before in
+    let at-half-row = at-back-row .before .before .before .before .before .before .before .before in
+    let v = at-half-row .before .before .before .before .before .before .before .before .before .before .before .before .args in
     let a = now (v .a) in
     let b = now (v .b) in
     let ts = now (v .tape) in
-    let h = c₂₀ .half-row .ensures in
-    let k = c₁₂ .back-row .ensures in
-    let s = c₄ .sum-row .ensures in
+    let h = at-half-row .half-row .ensures in
+    let k = at-back-row .back-row .ensures in
+    let s = at-sum-row .sum-row .ensures in
     let r = backs-right a b ts (v .i) (v .w) _ _ _ (now (v .back)) (h .2) (k .1) in
     (h .0, h .1, h .2, k .0, r, s .0, row-taken-backs a b ts (v .i) (v .w) (now (v .sums)) _ _ (now (v .back)) r (s .1))
 

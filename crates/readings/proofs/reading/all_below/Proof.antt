@@ -39,11 +39,17 @@ loop-less c = search needs
 
 loop-again : tie.Need-loop-again Inv-loop μ-loop
 loop-again c =
-    let v = c .before .before .before .before .args in
-    let k = c .before .before .before .loop .k in
+    let turn = c .before .before .before in
+    let v = turn .before .args in
+    let k = turn .loop .k in
     ⊎-elim
     (λ w. (omega arith, search needs, w .1 ∙ all-below-lost (v .size) (now (v .list)) k (omega arith) (w .0 .taken)))
-    (λ w. (omega arith, search needs, w .1 ∙ c .before .before .before .loop .inv .2 ∙ all-below-kept (v .size) (now (v .list)) k (omega arith) (omega (arith, w .0 .left))))
+    (λ w. (
+      omega arith,
+      search needs,
+      w .1 ∙ turn .loop .inv .2
+          ∙ all-below-kept (v .size) (now (v .list)) k (omega arith) (omega (arith, w .0 .left)),
+    ))
     (c .if1 .came)
 
 returns : tie.Need-returns Inv-loop μ-loop

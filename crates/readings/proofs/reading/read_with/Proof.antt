@@ -59,7 +59,8 @@ pick-listed-requires c κs =
     let sheet = made .before .before .before .before in
     let a = sheet .before .before .before .before .before .before .before .before .args in
     reading-fits (a .order) (now (a .left)) (now (a .right)) (now (a .tape)) (now (a .list)) (now (a .output)) (now (a .sheet)) _ _
-    (sheet .product-sheet .ensures) _ (made .made .given .1) _ (below .all-below .ensures) _ (own .listed-answer .ensures) _ (told .enum-told2 .given .1)
+    (sheet .product-sheet .ensures) _ (made .made .given .1) _ (below .all-below .ensures) _ (own .listed-answer .ensures) _
+    (told .enum-told2 .given .1)
 
 same-length-3 : tie.Need-same-length-3
 same-length-3 c = search needs
@@ -77,7 +78,8 @@ returns-3 c =
     let sheet = made .before .before .before .before in
     let a = sheet .before .before .before .before .before .before .before .before .args in
     reading-done (a .order) (now (a .left)) (now (a .right)) (now (a .tape)) (now (a .list)) (now (a .output)) (now (a .sheet)) _ _
-    (sheet .product-sheet .ensures) _ (made .made .given .1) _ (below .all-below .ensures) _ (own .listed-answer .ensures) _ (told .enum-told2 .given .1) _ (pick .pick-listed .ensures)
+    (sheet .product-sheet .ensures) _ (made .made .given .1) _ (below .all-below .ensures) _ (own .listed-answer .ensures) _
+    (told .enum-told2 .given .1) _ (pick .pick-listed .ensures)
 
 pub read-with-spec : {M : Type 1} → statement M
 read-with-spec =

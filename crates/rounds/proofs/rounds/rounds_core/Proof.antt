@@ -4,7 +4,7 @@ use native.Mathlib.Omega.{arith}
 use borrow.Author.Needs.{needs}
 use denote.Ref.{now}
 use Rattle.shares.proofs.WriteLaws.{front-all}
-use Rattle.rounds.proofs.BlockLaws.{keys-long, rounds-need-of, with-made}
+use Rattle.rounds.proofs.BlockLaws.{keys-length, rounds-need-of, with-made}
 use Rattle.rounds.proofs.rounds.rounds_core.Statement.{statement}
 use Rattle.rounds.proofs.rounds.rounds_core.Tie as tie
 
@@ -29,7 +29,7 @@ add-key-requires c κs =
     let start = number .before .before .before .before .before in
     let a = start .args in
     let fit = start .pre .0 in
-    (fit .order, omega (arith, number .key-number .ensures .1), keys-long (a .nk) (a .d) _ (fit .keyed), omega arith)
+    (fit .order, omega (arith, number .key-number .ensures .1), keys-length (a .nk) (a .d) _ (fit .keyed), omega arith)
 
 run-rounds-requires : tie.Need-run-rounds-requires
 run-rounds-requires c κs =
@@ -41,7 +41,7 @@ run-rounds-requires c κs =
         order = fit .order;
         small = omega arith;
         round = omega arith;
-        keyed = keys-long (a .nk) (a .d) _ (fit .keyed);
+        keyed = keys-length (a .nk) (a .d) _ (fit .keyed);
         drawn = omega (arith, fit .drawn, rounds-need-of (a .nk) (a .d));
         long = omega (arith, fit .output);
       },

@@ -6,7 +6,7 @@ use borrow.Author.Needs.{needs}
 use denote.Ref.{now}
 use Rattle.shares.specs.Strings.{parts, laid}
 use Rattle.shares.proofs.WriteLaws.{length-part-rest}
-use Rattle.cipher.proofs.DrawingLoops.{all-rounds, rounds-whole, rounds-whole-need}
+use Rattle.cipher.proofs.DrawingLoops.{round-loop, rounds-whole, rounds-whole-need}
 use Rattle.state.proofs.BufferLaws.{Buffered, buffered-start, buffered-room, buffered-more, buffered-taken, buffered-done}
 use Rattle.rounds.proofs.BlockLaws.{rounds-bound, round-keeps, round-made}
 use Rattle.rounds.proofs.rounds.run_rounds.Statement.{statement}
@@ -14,7 +14,7 @@ use Rattle.rounds.proofs.rounds.run_rounds.Tie as tie
 
 abbrev Inv-loop : tie.InvT-loop
 Inv-loop logs antilogs which nr d m keys tape s₀ at₀ i₀ i-end s at i =
-    (1 ≤ i) × (i ≤ suc nr) × (i-end ≡ nr + 1) × Buffered (all-rounds which d nr (parts (suc d) m keys)) 1 d 16 tape s₀ i at s
+    (1 ≤ i) × (i ≤ suc nr) × (i-end ≡ nr + 1) × Buffered (round-loop which d nr (parts (suc d) m keys)) 1 d 16 tape s₀ i at s
 
 abbrev μ-loop : tie.MeasureT-loop
 μ-loop logs antilogs which nr d m keys tape s₀ at₀ i₀ i-end s at i = i-end - i
@@ -44,7 +44,7 @@ part-make-round-end : tie.Need-part-make-round-end Inv-loop μ-loop
 part-make-round-end c = search needs
 
 make-round-requires : tie.Need-make-round-requires Inv-loop μ-loop
-unfolding all-rounds
+unfolding round-loop
 make-round-requires c κs =
     let number = c .before .before in
     let loop = number .before .before in
@@ -65,7 +65,7 @@ make-round-requires c κs =
     )
 
 add-at : tie.Need-add-at Inv-loop μ-loop
-unfolding all-rounds
+unfolding round-loop
 add-at c =
     let call = c .before .before in
     let loop = call .before .before .before .before .before in
@@ -84,7 +84,7 @@ loop-less : tie.Need-loop-less Inv-loop μ-loop
 loop-less c = search needs
 
 loop-again : tie.Need-loop-again Inv-loop μ-loop
-unfolding all-rounds
+unfolding round-loop
 loop-again c =
     let call = c .before .before in
     let number = call .before .before .before in
@@ -104,7 +104,7 @@ same-length : tie.Need-same-length Inv-loop μ-loop
 same-length c = search needs
 
 returns : tie.Need-returns Inv-loop μ-loop
-unfolding all-rounds
+unfolding round-loop
 returns c =
     let loop = c .before in
     let a = loop .before .before .before .before .args in

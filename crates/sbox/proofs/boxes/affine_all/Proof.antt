@@ -5,13 +5,14 @@ use native.Mathlib.Omega.{arith}
 use borrow.Author.Needs.{needs}
 use lib.ListN.{length, getD, length-set}
 use Rattle.gf256.specs.Directions.{affine-of}
-use Rattle.sbox.proofs.EachLaws.{each, each-none, each-named, each-all, numbered}
+use Rattle.power254.proofs.EachLaws.{each, each-none, each-named, each-all, numbered}
 use Rattle.sbox.proofs.boxes.affine_all.Statement.{statement}
 use Rattle.sbox.proofs.boxes.affine_all.Tie as tie
 
 abbrev Inv-loop : tie.InvT-loop
 Inv-loop which x₀ numbers k₀ k-end x k =
-    (k ≤ k-end) × (k-end ≡ length x₀) × (x ≡ each (affine-of which) k x₀) × (length x ≡ length x₀) × (length x₀ ≤ 9) × ((q : ℕ) → q < 9 → getD numbers q 0 ≡ q)
+    (k ≤ k-end) × (k-end ≡ length x₀) × (x ≡ each (affine-of which) k x₀) × (length x ≡ length x₀) × (length x₀ ≤ 9)
+    × ((q : ℕ) → q < 9 → getD numbers q 0 ≡ q)
 
 abbrev μ-loop : tie.MeasureT-loop
 μ-loop which x₀ numbers k₀ k-end x k = k-end - k

@@ -3,7 +3,8 @@ use mathlib.Core.List.{List}
 use mathlib.Core.Path.{ap, _∙_}
 use Prim.Native.Nat.{ℕ}
 use denote.Ref.{now}
-use Rattle.sbox.specs.Box.{power-254, inverse-box}
+use Rattle.power254.specs.Power254.{power-254}
+use Rattle.sbox.specs.Box.{inverse-box}
 use borrow.Author.Needs.{needs}
 use Rattle.sbox.proofs.boxes.inverse_box_core.Statement.{statement}
 use Rattle.sbox.proofs.boxes.inverse_box_core.Tie as tie

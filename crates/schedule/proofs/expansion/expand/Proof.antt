@@ -7,7 +7,7 @@ use denote.Ref.{now}
 use lib.ListN.{length}
 use Rattle.shares.proofs.WriteLaws.{length-part-rest}
 use Rattle.cipher.proofs.DrawingLaws.{Drawing, drawing-start, drawing-room, drawing-more, drawing-taken, drawing-done}
-use Rattle.cipher.proofs.DrawingLoops.{key-words}
+use Rattle.cipher.proofs.DrawingLoops.{word-loop}
 use Rattle.schedule.specs.Stored.{written}
 use Rattle.schedule.proofs.WrittenLaws.{word-stored-long, word-stored-next}
 use Rattle.schedule.proofs.expansion.expand.Statement.{statement}
@@ -16,7 +16,7 @@ use Rattle.schedule.proofs.expansion.expand.Tie as tie
 abbrev Inv-loop : tie.InvT-loop
 Inv-loop logs antilogs nk d total tape keys₀ m at₀ i₀ keys at i =
     (nk ≤ i) × (i ≤ total) × (m ≡ 4 * total) × (length keys ≡ suc d * (4 * total))
-    × Drawing (key-words nk d total) nk (written d total nk keys₀) tape i at (written d total i keys)
+    × Drawing (word-loop nk d total) nk (written d total nk keys₀) tape i at (written d total i keys)
 
 abbrev μ-loop : tie.MeasureT-loop
 μ-loop logs antilogs nk d total tape keys₀ m at₀ i₀ keys at i = total - i
@@ -28,18 +28,18 @@ loop-holds : tie.Need-loop-holds Inv-loop μ-loop
 loop-holds c = (omega arith, omega arith, refl, c .before .before .pre .0 .keyed, drawing-start _ _ _ _)
 
 sub-next-word : tie.Need-sub-next-word Inv-loop μ-loop
-unfolding key-words
+unfolding word-loop
 sub-next-word c = search needs
 
 part-next-word-start : tie.Need-part-next-word-start Inv-loop μ-loop
-unfolding key-words
+unfolding word-loop
 part-next-word-start c = search needs
 
 part-next-word-end : tie.Need-part-next-word-end Inv-loop μ-loop
 part-next-word-end c = search needs
 
 next-word-requires : tie.Need-next-word-requires Inv-loop μ-loop
-unfolding key-words
+unfolding word-loop
 next-word-requires c κs =
     let loop = c .before .before .before in
     let start = loop .before .before .before in
@@ -58,7 +58,7 @@ next-word-requires c κs =
     )
 
 add-at : tie.Need-add-at Inv-loop μ-loop
-unfolding key-words
+unfolding word-loop
 add-at c =
     let call = c .before .before in
     let loop = call .before .before .before .before in
@@ -73,7 +73,7 @@ loop-less : tie.Need-loop-less Inv-loop μ-loop
 loop-less c = search needs
 
 loop-again : tie.Need-loop-again Inv-loop μ-loop
-unfolding key-words
+unfolding word-loop
 loop-again c =
     let call = c .before .before in
     let loop = call .before .before .before .before in
@@ -91,7 +91,7 @@ same-length : tie.Need-same-length Inv-loop μ-loop
 same-length c = search needs
 
 returns : tie.Need-returns Inv-loop μ-loop
-unfolding key-words
+unfolding word-loop
 returns c =
     let loop = c .before in
     let v = loop .before .before .before .args in

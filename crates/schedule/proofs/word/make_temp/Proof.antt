@@ -4,7 +4,8 @@ use borrow.Author.Needs.{needs}
 use denote.Ref.{now}
 use Rattle.cipher.specs.Fips197.{turned}
 use Rattle.cipher.specs.Cipher.{temp-need}
-use Rattle.schedule.proofs.WordLaws.{kind-turned, kind-subbed, kind-plain, temp-says, subbed-says, plain-says, need-turned, need-subbed, some-turn}
+use Rattle.schedule.proofs.WordLaws.{kind-turned, kind-subbed, kind-plain, temp-says, subbed-says, plain-says, need-turned, need-subbed}
+use Rattle.schedule.proofs.WordLaws.{some-turn}
 use Rattle.schedule.proofs.word.make_temp.Statement.{statement}
 use Rattle.schedule.proofs.word.make_temp.Tie as tie
 

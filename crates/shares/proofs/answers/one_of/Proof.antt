@@ -31,10 +31,11 @@ cast-l c = omega (arith, c .shared-slice-known .given (c .before .before .loop .
 
 mul-if1 : tie.Need-mul-if1 Inv-loop μ-loop
 mul-if1 c =
-    let a = c .before .before .before .args in
+    let start = c .before .before .before in
+    let a = start .args in
     let k = c .before .before .loop .k in
     let l : getD (now (a .lengths)) (k - 1) 0 ≤ 255 = omega (arith, c .shared-slice-known .given (k - 1)) in
-    omega (arith, mul-le-mul (c .before .before .before .pre) l)
+    omega (arith, mul-le-mul (start .pre) l)
 
 loop-less : tie.Need-loop-less Inv-loop μ-loop
 loop-less c = search needs

@@ -40,8 +40,12 @@ loop-again : tie.Need-loop-again Inv-loop μ-loop
 unfolding at
 loop-again c =
     let l = c .before .before .before .loop in
-    let e = over-at _ (l .k) _ _ (l .inv .2) (omega arith) in
-    (omega arith, search needs, over-more _ _ _ _ _ (l .inv .2) (ap (λ (a : ℕ). bitXor a (getD (now (c .before .before .before .before .args .y)) (l .k) 0)) e) (omega arith), simp length-set (omega arith))
+    let e = over-at _ (l .k) _ _ (l .inv .2) (omega arith) in (
+      omega arith,
+      search needs,
+      over-more _ _ _ _ _ (l .inv .2) (ap (λ (a : ℕ). bitXor a (getD (now (c .before .before .before .before .args .y)) (l .k) 0)) e) (omega arith),
+      simp length-set (omega arith),
+    )
 
 same-length : tie.Need-same-length Inv-loop μ-loop
 same-length c = search needs

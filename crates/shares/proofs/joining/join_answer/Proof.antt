@@ -23,8 +23,9 @@ add-share-length c = let b = served-bounds _ (sym (c .before .served .ensures) �
 
 share-length-requires : tie.Need-share-length-requires
 share-length-requires c κs =
-    let b = served-bounds (c .before .before .args .order) (sym (c .before .served .ensures) ∙ not-false _ (c .if1 .left)) in
-    let h : c .before .before .args .order + 1 ≤ 9 = omega arith in
+    let start = c .before .before in
+    let b = served-bounds (start .args .order) (sym (c .before .served .ensures) ∙ not-false _ (c .if1 .left)) in
+    let h : start .args .order + 1 ≤ 9 = omega arith in
     h
 
 returns-2 : tie.Need-returns-2

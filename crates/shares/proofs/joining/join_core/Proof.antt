@@ -38,10 +38,12 @@ part-xor-parts-end c = search needs
 
 xor-parts-requires : tie.Need-xor-parts-requires
 xor-parts-requires c κs =
-    let v = c .before .before .before .before .before .before .before .before .before .args in
+    let at-put = c .before .before .before .before in
+    let start = at-put .before .before .before .before .before in
+    let v = start .args in
     let xs = now (v .input) in
-    let l : length (c .before .before .before .before .put .last .1 .0) ≡ v .l = c .before .before .before .before .put .kept .1 .0 ∙ c .before .before .before .before .before .before .before .before .before .pre .0 in
-    let n : length xs ≡ v .l + v .d * v .l = c .before .before .before .before .before .before .before .before .before .pre .1 ∙ one-more (v .d) (v .l) in
+    let l : length (at-put .put .last .1 .0) ≡ v .l = at-put .put .kept .1 .0 ∙ start .pre .0 in
+    let n : length xs ≡ v .l + v .d * v .l = start .pre .1 ∙ one-more (v .d) (v .l) in
     let e : length (take (length xs - v .l) (drop (v .l) xs)) ≡ v .d * v .l = ap length (part-rest xs (v .l)) ∙ length-drop (v .l) xs ∙ omega arith in
     let h : v .d * v .l ≤ length (take (length xs - v .l) (drop (v .l) xs)) = omega arith in
     rw l h
@@ -51,13 +53,17 @@ same-length c = search needs
 
 returns : tie.Need-returns
 returns c =
-    let v = c .before .before .before .before .before .before .before .before .before .before .before .before .args in
+    let at-put = c .before .before .before .before .before .before .before in
+    let start = at-put .before .before .before .before .before in
+    let v = start .args in
     let xs = now (v .input) in
-    let n : length xs ≡ v .l + v .d * v .l = c .before .before .before .before .before .before .before .before .before .before .before .before .pre .1 ∙ one-more (v .d) (v .l) in
-    let t : length (take (v .l) xs) ≡ length (now (v .output)) = length-take-le (v .l) xs (omega arith) ∙ sym (c .before .before .before .before .before .before .before .before .before .before .before .before .pre .0) in
-    let first : c .before .before .before .before .before .before .before .put .last .1 .0 ≡ take (v .l) xs = c .before .before .before .before .before .before .before .put .ensures ∙ ap (λ (x : List ℕ). front x (now (v .output))) (part-first xs (v .l)) ∙ front-all (take (v .l) xs) (now (v .output)) t in
-    joined-first (v .d) (v .l) _ xs _ _ first (c .before .before .before .before .before .before .before .put .kept .1 .0 ∙ c .before .before .before .before .before .before .before .before .before .before .before .before .pre .0)
-    (c .before .before .xor-parts .ensures .1 ∙ ap (λ (r : List ℕ). xors (c .before .before .before .before .before .before .before .put .last .1 .0) (joined-string (parts (v .d) (length (c .before .before .before .before .before .before .before .put .last .1 .0)) r))) (part-rest xs (v .l)))
+    let n : length xs ≡ v .l + v .d * v .l = start .pre .1 ∙ one-more (v .d) (v .l) in
+    let t : length (take (v .l) xs) ≡ length (now (v .output)) = length-take-le (v .l) xs (omega arith) ∙ sym (start .pre .0) in
+    let first : at-put .put .last .1 .0 ≡ take (v .l) xs =
+    at-put .put .ensures ∙ ap (λ (x : List ℕ). front x (now (v .output))) (part-first xs (v .l)) ∙ front-all (take (v .l) xs) (now (v .output)) t in
+    joined-first (v .d) (v .l) _ xs _ _ first (at-put .put .kept .1 .0 ∙ start .pre .0)
+    (c .before .before .xor-parts .ensures .1
+    ∙ ap (λ (r : List ℕ). xors (at-put .put .last .1 .0) (joined-string (parts (v .d) (length (at-put .put .last .1 .0)) r))) (part-rest xs (v .l)))
 
 pub join-core-spec : {M : Type 1} → statement M
 join-core-spec =

@@ -26,20 +26,30 @@ unfolding joined-string parts
 loop-holds c = (search needs, refl, sym (zero-mul _), sym (xors-nil-r _), refl)
 
 add-e : tie.Need-add-e Inv-loop μ-loop
-add-e c = let f = part-fits (c .before .loop .i) (c .before .before .before .before .args .d) (length (now (c .before .before .before .before .args .x))) _ (omega arith) (c .before .before .before .before .pre) in omega arith
+add-e c =
+    let start = c .before .before .before .before in
+    let f = part-fits (c .before .loop .i) (start .args .d) (length (now (start .args .x))) _ (omega arith) (start .pre) in omega arith
 
 sub-xor-into : tie.Need-sub-xor-into Inv-loop μ-loop
-sub-xor-into c = let f = part-fits (c .before .loop .i) (c .before .before .before .before .args .d) (length (now (c .before .before .before .before .args .x))) _ (omega arith) (c .before .before .before .before .pre) in omega arith
+sub-xor-into c =
+    let start = c .before .before .before .before in
+    let f = part-fits (c .before .loop .i) (start .args .d) (length (now (start .args .x))) _ (omega arith) (start .pre) in omega arith
 
 part-xor-into-start : tie.Need-part-xor-into-start Inv-loop μ-loop
-part-xor-into-start c = let f = part-fits (c .before .loop .i) (c .before .before .before .before .args .d) (length (now (c .before .before .before .before .args .x))) _ (omega arith) (c .before .before .before .before .pre) in omega arith
+part-xor-into-start c =
+    let start = c .before .before .before .before in
+    let f = part-fits (c .before .loop .i) (start .args .d) (length (now (start .args .x))) _ (omega arith) (start .pre) in omega arith
 
 part-xor-into-end : tie.Need-part-xor-into-end Inv-loop μ-loop
-part-xor-into-end c = let f = part-fits (c .before .loop .i) (c .before .before .before .before .args .d) (length (now (c .before .before .before .before .args .x))) _ (omega arith) (c .before .before .before .before .pre) in omega arith
+part-xor-into-end c =
+    let start = c .before .before .before .before in
+    let f = part-fits (c .before .loop .i) (start .args .d) (length (now (start .args .x))) _ (omega arith) (start .pre) in omega arith
 
 xor-into-requires : tie.Need-xor-into-requires Inv-loop μ-loop
 xor-into-requires c κs =
-    let f = part-fits (c .before .before .before .loop .i) (c .before .before .before .before .before .before .args .d) (length (now (c .before .before .before .before .before .before .args .x))) _ (omega arith) (c .before .before .before .before .before .before .pre) in
+    let turn = c .before .before .before in
+    let start = turn .before .before .before in
+    let f = part-fits (turn .loop .i) (start .args .d) (length (now (start .args .x))) _ (omega arith) (start .pre) in
     simp (length-take, length-drop) (omega arith)
 
 add-i : tie.Need-add-i Inv-loop μ-loop
@@ -50,9 +60,16 @@ loop-less c = search needs
 
 loop-again : tie.Need-loop-again Inv-loop μ-loop
 loop-again c =
-    let l = c .before .before .before .before .before .before .loop in
-    let f = suc-mul (l .i) (length (now (c .before .before .before .before .before .before .before .before .before .args .x))) in
-    (omega arith, search needs, rw add-one (omega arith), parts-more _ _ (l .at) _ _ _ _ _ (l .inv .3) (l .inv .2) refl (c .before .before .xor-into .ensures), c .before .before .xor-into .kept .1 .0 ∙ l .inv .4)
+    let at-xor-into = c .before .before in
+    let turn = at-xor-into .before .before .before .before in
+    let l = turn .loop in
+    let f = suc-mul (l .i) (length (now (turn .before .before .before .args .x))) in (
+      omega arith,
+      search needs,
+      rw add-one (omega arith),
+      parts-more _ _ (l .at) _ _ _ _ _ (l .inv .3) (l .inv .2) refl (at-xor-into .xor-into .ensures),
+      at-xor-into .xor-into .kept .1 .0 ∙ l .inv .4,
+    )
 
 same-length : tie.Need-same-length Inv-loop μ-loop
 same-length c = search needs

@@ -33,7 +33,8 @@ returns c =
     let q = c .before .before in
     let v = q .before .before .before .before .before .args in
     settled-refused _ _ _ _ _
-    (byte-answered _ _ (v .order) (length (now (v .input))) (length (now (v .tape))) (length (now (v .output))) _ (λ e. q .before .refresh-need .ensures) (q .byte-answer .ensures))
+    (byte-answered _ _ (v .order) (length (now (v .input))) (length (now (v .tape))) (length (now (v .output))) _
+    (λ e. q .before .refresh-need .ensures) (q .byte-answer .ensures))
     _ (c .enum-told2 .given .1)
 
 put-requires : tie.Need-put-requires
@@ -41,7 +42,8 @@ put-requires c κs =
     let told = c .before in
     let q = told .before .before in
     let v = q .before .before .before .before .before .args in
-    let h = byte-through (q .before .refresh-need .result) (v .order) (length (now (v .input))) (length (now (v .tape))) (length (now (v .output))) _ _ (q .byte-answer .ensures) (told .enum-told .given .1) in
+    let h = byte-through (q .before .refresh-need .result) (v .order) (length (now (v .input))) (length (now (v .tape))) (length (now (v .output))) _
+    _ (q .byte-answer .ensures) (told .enum-told .given .1) in
     omega (arith, h .input, h .output)
 
 refresh-core-requires : tie.Need-refresh-core-requires
@@ -50,7 +52,8 @@ refresh-core-requires c κs =
     let told = put .before .before in
     let q = told .before .before in
     let v = q .before .before .before .before .before .args in
-    let h = byte-through (q .before .refresh-need .result) (v .order) (length (now (v .input))) (length (now (v .tape))) (length (now (v .output))) _ _ (q .byte-answer .ensures) (told .enum-told .given .1) in
+    let h = byte-through (q .before .refresh-need .result) (v .order) (length (now (v .input))) (length (now (v .tape))) (length (now (v .output))) _
+    _ (q .byte-answer .ensures) (told .enum-told .given .1) in
     let l = put .put .kept .1 .0 in
     (h .order, omega (arith, h .output, l), rw (q .before .refresh-need .ensures) at (h .drawn))
 
@@ -65,10 +68,12 @@ returns-2 c =
     let told = put .before .before in
     let q = told .before .before in
     let v = q .before .before .before .before .before .args in
-    let h = byte-through (q .before .refresh-need .result) (v .order) (length (now (v .input))) (length (now (v .tape))) (length (now (v .output))) _ _ (q .byte-answer .ensures) (told .enum-told .given .1) in
+    let h = byte-through (q .before .refresh-need .result) (v .order) (length (now (v .input))) (length (now (v .tape))) (length (now (v .output))) _
+    _ (q .byte-answer .ensures) (told .enum-told .given .1) in
     let m = put .put .ensures ∙ front-all (now (v .input)) (now (v .output)) (h .input ∙ sym (h .output)) in
     settled-done _ _ _ _ _
-    (byte-answered _ _ (v .order) (length (now (v .input))) (length (now (v .tape))) (length (now (v .output))) _ (λ e. q .before .refresh-need .ensures) (q .byte-answer .ensures))
+    (byte-answered _ _ (v .order) (length (now (v .input))) (length (now (v .tape))) (length (now (v .output))) _
+    (λ e. q .before .refresh-need .ensures) (q .byte-answer .ensures))
     _ _ _ (told .enum-told .given .1)
     (ap took (core .refresh-core .ensures .0)) (core .refresh-core .ensures .1 ∙ ap (λ (x : List ℕ). refreshed (v .order) x (now (v .tape))) m)
 

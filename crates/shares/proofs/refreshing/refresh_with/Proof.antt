@@ -2,7 +2,6 @@
 use mathlib.Core.Path.{_≡_, refl, sym, ap, _∙_}
 use Prim.Native.Nat.{ℕ, suc, _≤_, _<_, _-_, _+_}
 use native.Mathlib.Omega.{arith}
-use native.Mathlib.Numerals.{add-one}
 use borrow.Author.Needs.{needs}
 use denote.Ref.{now}
 use lib.ListN.{length, set, length-set}
@@ -17,7 +16,8 @@ use Rattle.shares.proofs.refreshing.refresh_with.Tie as tie
 abbrev Inv-loop : tie.InvT-loop
 Inv-loop d tape first₀ x₀ drawn₀ s₀ i₀ i-end first x drawn s i =
     (1 ≤ i) × (i ≤ d + 1) × (i-end ≡ d + 1) × (drawn + 1 ≡ i) × (d ≤ length tape) × (s ≡ at (refreshed drawn x₀ tape) 0)
-    × (first ≡ over (λ k. at (refreshed k x₀ tape) 0) i first₀) × (x ≡ set (refreshed drawn x₀ tape) 0 (at x₀ 0)) × (length first ≡ length first₀) × (length x ≡ length x₀)
+    × (first ≡ over (λ k. at (refreshed k x₀ tape) 0) i first₀) × (x ≡ set (refreshed drawn x₀ tape) 0 (at x₀ 0)) × (length first ≡ length first₀)
+    × (length x ≡ length x₀)
     × (d < length first₀)
 
 abbrev μ-loop : tie.MeasureT-loop
@@ -40,7 +40,8 @@ loop-holds c =
     let ts = now (v .tape) in
     let f : ℕ → ℕ = λ k. at (refreshed k x ts) 0 in
     let e = first-start x ts in
-    let w : set (now (v .first)) 0 (at x 0) ≡ over f 1 (now (v .first)) = over-more f 0 (at x 0) (now (v .first)) (now (v .first)) (over-none f (now (v .first))) e (omega arith) in (
+    let w : set (now (v .first)) 0 (at x 0) ≡ over f 1 (now (v .first)) =
+    over-more f 0 (at x 0) (now (v .first)) (now (v .first)) (over-none f (now (v .first))) e (omega arith) in (
       search needs,
       search needs,
       refl,
@@ -119,8 +120,12 @@ returns c =
     let f : ℕ → ℕ = λ k. at (refreshed k x (now (v .tape))) 0 in
     let d : l .drawn ≡ v .d = omega arith in
     let i : l .i ≡ suc (v .d) = omega arith in
-    let g : l .first ≡ front (tab f (suc (v .d))) (now (v .first)) = (rw i at (l .inv .6)) ∙ over-first f (v .d) (at x 0) (now (v .first)) ∙ over-front f (suc (v .d)) (now (v .first)) in
-    (d ∙ sym (refresh-need-is (v .d)), rw add-one g, rest-end (v .d) _ _ (l .x) x (now (v .tape)) (rw d at (l .inv .7)) (at-front f (suc (v .d)) (v .d) (l .first) (now (v .first)) g (omega arith)))
+    let g : l .first ≡ front (tab f (suc (v .d))) (now (v .first)) =
+    (rw i at (l .inv .6)) ∙ over-first f (v .d) (at x 0) (now (v .first)) ∙ over-front f (suc (v .d)) (now (v .first)) in (
+      d ∙ sym (refresh-need-is (v .d)),
+      g,
+      rest-end (v .d) _ _ (l .x) x (now (v .tape)) (rw d at (l .inv .7)) (at-front f (suc (v .d)) (v .d) (l .first) (now (v .first)) g (omega arith)),
+    )
 
 pub refresh-with-spec : {M : Type 1} → statement M
 refresh-with-spec =

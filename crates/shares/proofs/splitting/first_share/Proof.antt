@@ -27,20 +27,24 @@ part-xor-parts-end c = search needs
 
 xor-parts-requires : tie.Need-xor-parts-requires
 xor-parts-requires c κs =
-    let v = c .before .before .before .before .before .before .before .before .args in
-    rw (front-taken (length (now (v .input))) _ _ _ (c .before .before .before .put .ensures) refl) (c .before .before .before .before .before .before .before .before .pre .0)
+    let at-put = c .before .before .before in
+    let start = at-put .before .before .before .before .before in
+    let v = start .args in
+    rw (front-taken (length (now (v .input))) _ _ _ (at-put .put .ensures) refl) (start .pre .0)
 
 same-length : tie.Need-same-length
 same-length c = search needs
 
 returns : tie.Need-returns
 returns c =
-    let v = c .before .before .before .before .before .before .before .before .before .before .before .args in
+    let at-xor-parts = c .before .before in
+    let at-put = at-xor-parts .before .before .before .before in
+    let v = at-put .before .before .before .before .before .args in
     let xs = now (v .input) in
-    let t = front-taken (length xs) _ _ xs (c .before .before .before .before .before .before .put .ensures) refl in
-    let m = c .before .before .xor-parts .ensures .1 ∙ ap (λ (x : List ℕ). xors x (joined-string (parts (v .d) (length x) (now (v .tape))))) t in (
-      c .before .before .xor-parts .ensures .0 ∙ ap (λ (x : List ℕ). v .d * length x) t,
-      front-first (length xs) _ _ _ xs (c .before .before .before .before .before .before .put .ensures) refl (ap length m ∙ length-masked (v .d) xs (now (v .tape)))
+    let t = front-taken (length xs) _ _ xs (at-put .put .ensures) refl in
+    let m = at-xor-parts .xor-parts .ensures .1 ∙ ap (λ (x : List ℕ). xors x (joined-string (parts (v .d) (length x) (now (v .tape))))) t in (
+      at-xor-parts .xor-parts .ensures .0 ∙ ap (λ (x : List ℕ). v .d * length x) t,
+      front-first (length xs) _ _ _ xs (at-put .put .ensures) refl (ap length m ∙ length-masked (v .d) xs (now (v .tape)))
           ∙ ap (λ (x : List ℕ). front x (now (v .out))) m,
     )
 

@@ -34,7 +34,8 @@ split-core-requires c κs =
     let q = told .before .before in
     let v = q .before .before .before .before .args in
     let x = length (now (v .input)) in
-    let h = split-through (v .order) x (length (now (v .tape))) (length (now (v .output))) _ _ _ (q .split-answer .ensures) (told .enum-told .given .1) in
+    let h = split-through (v .order) x (length (now (v .tape))) (length (now (v .output))) _ _ _ (q .split-answer .ensures)
+    (told .enum-told .given .1) in
     let l : share-length 1 x ≡ x = sym (share-length-is 1 x (h .input) ∙ one-mul _) in
     (rw l at (h .drawn), h .output ∙ ap (λ (n : ℕ). suc (v .order) * n) l)
 
@@ -49,7 +50,8 @@ returns-2 c =
     let q = told .before .before in
     let v = q .before .before .before .before .args in
     let x = length (now (v .input)) in
-    let h = split-through (v .order) x (length (now (v .tape))) (length (now (v .output))) _ _ _ (q .split-answer .ensures) (told .enum-told .given .1) in
+    let h = split-through (v .order) x (length (now (v .tape))) (length (now (v .output))) _ _ _ (q .split-answer .ensures)
+    (told .enum-told .given .1) in
     let l : x ≡ share-length 1 x = share-length-is 1 x (h .input) ∙ one-mul _ in
     settled-done _ _ _ _ _ (q .split-answer .ensures) _ _ _ (told .enum-told .given .1)
     (ap took (core .split-core .ensures .0 ∙ ap (λ (n : ℕ). v .order * n) l)) (core .split-core .ensures .1)

@@ -17,9 +17,11 @@ use Rattle.shares.proofs.splitting.split_core.Tie as tie
 
 first-share-requires : tie.Need-first-share-requires
 first-share-requires c κs =
-    let v = c .before .before .before .before .args in
-    let n : length (now (v .output)) ≡ length (now (v .input)) + v .d * length (now (v .input)) = c .before .before .before .before .pre .1 ∙ one-more (v .d) (length (now (v .input))) in
-    (c .before .before .before .before .pre .0, omega arith)
+    let start = c .before .before .before .before in
+    let v = start .args in
+    let n : length (now (v .output)) ≡ length (now (v .input)) + v .d * length (now (v .input)) =
+    start .pre .1 ∙ one-more (v .d) (length (now (v .input))) in
+    (start .pre .0, omega arith)
 
 sub-put : tie.Need-sub-put
 sub-put c = search needs
@@ -29,9 +31,11 @@ part-put-start c = search needs
 
 part-put-end : tie.Need-part-put-end
 part-put-end c =
-    let v = c .before .before .before .before .before .before .before .args in
-    let r : c .before .before .first-share .result ≡ v .d * length (now (v .input)) = c .before .before .first-share .ensures .0 in
-    let h : c .before .before .first-share .result ≤ length (now (v .tape)) = omega (arith, c .before .before .before .before .before .before .before .pre .0) in
+    let at-first-share = c .before .before in
+    let start = at-first-share .before .before .before .before .before in
+    let v = start .args in
+    let r : at-first-share .first-share .result ≡ v .d * length (now (v .input)) = at-first-share .first-share .ensures .0 in
+    let h : at-first-share .first-share .result ≤ length (now (v .tape)) = omega (arith, start .pre .0) in
     h
 
 sub-put-2 : tie.Need-sub-put-2
@@ -45,12 +49,14 @@ part-put-end-2 c = search needs
 
 put-requires : tie.Need-put-requires
 put-requires c κs =
-    let v = c .before .before .before .before .before .before .before .before .before .args in
+    let at-first-share = c .before .before .before .before in
+    let start = at-first-share .before .before .before .before .before in
+    let v = start .args in
     let l = length (now (v .input)) in
-    let y = c .before .before .before .before .first-share .last .1 .1 .1 .0 in
-    let r : c .before .before .before .before .first-share .result ≡ v .d * l = c .before .before .before .before .first-share .ensures .0 in
-    let h : c .before .before .before .before .first-share .result ≤ length (now (v .tape)) = omega (arith, c .before .before .before .before .before .before .before .before .before .pre .0) in
-    let n : length y ≡ l + v .d * l = c .before .before .before .before .first-share .kept .1 .1 .1 .0 ∙ c .before .before .before .before .before .before .before .before .before .pre .1 ∙ one-more (v .d) l in
+    let y = at-first-share .first-share .last .1 .1 .1 .0 in
+    let r : at-first-share .first-share .result ≡ v .d * l = at-first-share .first-share .ensures .0 in
+    let h : at-first-share .first-share .result ≤ length (now (v .tape)) = omega (arith, start .pre .0) in
+    let n : length y ≡ l + v .d * l = at-first-share .first-share .kept .1 .1 .1 .0 ∙ start .pre .1 ∙ one-more (v .d) l in
     rw (length-part-first (now (v .tape)) _ h, length-part-rest y l) (omega arith)
 
 same-length : tie.Need-same-length
@@ -58,21 +64,25 @@ same-length c = search needs
 
 returns : tie.Need-returns
 returns c =
-    let v = c .before .before .before .before .before .before .before .before .before .before .before .before .args in
+    let at-first-share = c .before .before .before .before .before .before .before in
+    let start = at-first-share .before .before .before .before .before in
+    let v = start .args in
     let xs = now (v .input) in
     let ts = now (v .tape) in
     let o = now (v .output) in
-    let y = c .before .before .before .before .before .before .before .first-share .last .1 .1 .1 .0 in
+    let y = at-first-share .first-share .last .1 .1 .1 .0 in
     let masked = xors xs (joined-string (parts (v .d) (length xs) ts)) in
-    let r : c .before .before .before .before .before .before .before .first-share .result ≡ v .d * length xs = c .before .before .before .before .before .before .before .first-share .ensures .0 in
+    let r : at-first-share .first-share .result ≡ v .d * length xs = at-first-share .first-share .ensures .0 in
     let k : length masked ≡ length xs = length-masked (v .d) xs ts in
-    let h : v .d * length xs ≤ length ts = c .before .before .before .before .before .before .before .before .before .before .before .before .pre .0 in
-    let n : length o ≡ length xs + v .d * length xs = c .before .before .before .before .before .before .before .before .before .before .before .before .pre .1 ∙ one-more (v .d) (length xs) in
+    let h : v .d * length xs ≤ length ts = start .pre .0 in
+    let n : length o ≡ length xs + v .d * length xs = start .pre .1 ∙ one-more (v .d) (length xs) in
     let t : length (take (v .d * length xs) ts) ≡ v .d * length xs = length-take-le (v .d * length xs) ts h in
-    let p = c .before .before .put .ensures ∙ ap (λ (x : List ℕ). front x (take (length y - length xs) (drop (length xs) y))) (part-first ts (c .before .before .before .before .before .before .before .first-share .result) ∙ ap (λ (m : ℕ). take m ts) r) in
+    let p = c .before .before .put .ensures
+    ∙ ap (λ (x : List ℕ). front x (take (length y - length xs) (drop (length xs) y)))
+    (part-first ts (at-first-share .first-share .result) ∙ ap (λ (m : ℕ). take m ts) r) in
     let a : length (masked ++ take (v .d * length xs) ts) ≡ length o = length-append masked (take (v .d * length xs) ts) ∙ omega arith in (
       r,
-      front-part (length xs) _ _ o (take (v .d * length xs) ts) masked _ (c .before .before .before .before .before .before .before .first-share .ensures .1) k (omega arith) p refl
+      front-part (length xs) _ _ o (take (v .d * length xs) ts) masked _ (at-first-share .first-share .ensures .1) k (omega arith) p refl
           ∙ front-all (masked ++ take (v .d * length xs) ts) o a ∙ sym (laid-split (v .d) xs ts h),
     )
 

@@ -27,11 +27,15 @@ part-result-end-2 c = search needs
 
 returns : tie.Need-returns
 unfolding unused
-returns c = part-rest (now (c .before .before .args .tape)) (c .before .before .args .count)
+returns c =
+    let start = c .before .before in
+    part-rest (now (start .args .tape)) (start .args .count)
 
 returns-2 : tie.Need-returns-2
 unfolding unused
-returns-2 c = part-past (now (c .before .before .args .tape)) (c .before .before .args .count) (omega arith)
+returns-2 c =
+    let start = c .before .before in
+    part-past (now (start .args .tape)) (start .args .count) (omega arith)
 
 pub unused-tape-spec : {M : Type 1} → statement M
 unused-tape-spec =

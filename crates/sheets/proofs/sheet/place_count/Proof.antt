@@ -2,7 +2,7 @@
 use native.Mathlib.Omega.{arith}
 use borrow.Author.Needs.{needs}
 use Rattle.isw.specs.Place.{place-count}
-use Rattle.sheets.proofs.SheetParts.{count-bounds}
+use Rattle.sheet_parts.proofs.SheetParts.{count-bounds}
 use Rattle.sheets.proofs.sheet.place_count.Statement.{statement}
 use Rattle.sheets.proofs.sheet.place_count.Tie as tie
 

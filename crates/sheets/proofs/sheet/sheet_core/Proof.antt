@@ -25,7 +25,7 @@ slice-aggregate-sheet-with c = search needs
 sheet-with-requires : tie.Need-sheet-with-requires
 sheet-with-requires c κs =
     let p = c .before .before .before .before .before .before .before .pre in
-    (p .0, length-part-first _ _ (omega (arith, p .0 .order)) ∙ add-one _, refl, p .1, p .2)
+    (p .0, record { summed = length-part-first _ _ (omega (arith, p .0 .order)) ∙ add-one _; tabled = refl }, p .1, p .2)
 
 same-length : tie.Need-same-length
 same-length c = search needs

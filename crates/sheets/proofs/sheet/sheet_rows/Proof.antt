@@ -12,11 +12,11 @@ use Rattle.xor.specs.Pairs.{before-row}
 use Rattle.isw.specs.Place.{product-need}
 use Rattle.shares.specs.Writes.{front}
 use Rattle.shares.proofs.WriteLaws.{part-rest}
-use Rattle.sheets.specs.Parts.{pairs-before}
+use Rattle.sheet_parts.specs.Parts.{pairs-before}
 use Rattle.masking.proofs.TermsLaws.{product-need-last, row-counts, row-fits, row-room}
 use Rattle.masking.proofs.SumsLaws.{length-starts}
-use Rattle.sheets.proofs.PartsLaws.{Gathered, gathered-start, gathered-row, gathered-all}
-use Rattle.sheets.proofs.SheetParts.{few-drawn, pairs-written, pairs-last}
+use Rattle.sheet_parts.proofs.PartsLaws.{Gathered, gathered-start, gathered-row, gathered-all}
+use Rattle.sheet_parts.proofs.SheetParts.{few-drawn, pairs-written, pairs-last}
 use Rattle.sheets.proofs.sheet.sheet_rows.Statement.{statement}
 use Rattle.sheets.proofs.sheet.sheet_rows.Tie as tie
 
@@ -41,10 +41,10 @@ put-starts-requires c κs = search needs
 loop-holds : tie.Need-loop-holds Inv-loop μ-loop
 unfolding front before-row runs
 loop-holds c =
-    let c₇ = c .before .before .before .before .before .before .before in
-    let s = c₇ .before .before .before .before .before .before .before .before in
+    let at-start-sums = c .before .before .before .before .before .before .before in
+    let s = at-start-sums .before .before .before .before .before .before .before .before in
     let v = s .args in
-    let e = c₇ .start-sums .ensures in (
+    let e = at-start-sums .start-sums .ensures in (
       search needs,
       refl,
       search needs,
@@ -52,7 +52,7 @@ loop-holds c =
       refl,
       length-starts _ _ _ _ e ∙ add-one (v .d),
       search needs,
-      gathered-start (v .d) (now (v .a)) (now (v .b)) (now (v .tape)) _ (now (v .table)) (s .pre .0 .order) (s .pre .2) _ _ (add-one (v .d)) e
+      gathered-start (v .d) (now (v .a)) (now (v .b)) (now (v .tape)) _ (now (v .table)) (s .pre .0 .order) (s .pre .1 .tabled) _ _ (add-one (v .d)) e
           (c .before .before .put-starts .ensures),
     )
 
@@ -82,57 +82,57 @@ part-sheet-row-end-2 c = search needs
 
 sheet-row-requires : tie.Need-sheet-row-requires Inv-loop μ-loop
 sheet-row-requires c κs =
-    let c₄ = c .before .before .before .before in
-    let c₅ = c₄ .before in
-    let s = c₅ .before .before .before .before .before .before .before .before .before .before .before .before .before .before .before .before in
-    let l = c₅ .loop in
+    let at-loop-test = c .before .before .before .before in
+    let turn = at-loop-test .before in
+    let s = turn .before .before .before .before .before .before .before .before .before .before .before .before .before .before .before .before in
+    let l = turn .loop in
     let v = s .args in
     let p = s .pre in
-    let h = c₄ .loop-test .taken in
+    let h = at-loop-test .loop-test .taken in
     let a = now (v .a) in
     let b = now (v .b) in
     let ts = now (v .tape) in
     let r = row-fits (v .d) (l .i) (l .drawn) h (l .inv .1) a b ts (l .sums) (p .0) (l .inv .5) in
-    let o = row-room (v .d) (l .i) (l .drawn) h (l .inv .1) (now (v .out)) (l .out) (p .3) (l .inv .4) in
-    (r, l .inv .6, o .1, p .4)
+    let o = row-room (v .d) (l .i) (l .drawn) h (l .inv .1) (now (v .out)) (l .out) (p .2) (l .inv .4) in
+    (r, l .inv .6, o .1, p .3)
 
 add-drawn : tie.Need-add-drawn Inv-loop μ-loop
 add-drawn c =
-    let c₆ = c .before .before .before .before .before .before in
-    let c₁₁ = c₆ .before .before .before .before .before in
-    let c₁₂ = c₁₁ .before in
-    let s = c₁₂ .before .before .before .before .before .before .before .before .before .before .before .before .before .before .before .before in
-    let l = c₁₂ .loop in
-    let r = row-counts (s .args .d) (l .i) (l .drawn) (c₁₁ .loop-test .taken) (l .inv .1) in
+    let at-sheet-row = c .before .before .before .before .before .before in
+    let at-loop-test = at-sheet-row .before .before .before .before .before in
+    let turn = at-loop-test .before in
+    let s = turn .before .before .before .before .before .before .before .before .before .before .before .before .before .before .before .before in
+    let l = turn .loop in
+    let r = row-counts (s .args .d) (l .i) (l .drawn) (at-loop-test .loop-test .taken) (l .inv .1) in
     let few = few-drawn (s .args .d) (s .pre .0 .order) in
-    omega (arith, c₆ .sheet-row .ensures .0)
+    omega (arith, at-sheet-row .sheet-row .ensures .0)
 
 add-i : tie.Need-add-i Inv-loop μ-loop
 add-i c =
-    let c₁₁ = c .before .before .before .before .before .before .before .before .before .before .before in
-    let c₁₂ = c₁₁ .before in
-    let s = c₁₂ .before .before .before .before .before .before .before .before .before .before .before .before .before .before .before .before in
-    omega (arith, c₁₁ .loop-test .taken, s .pre .0 .order)
+    let at-loop-test = c .before .before .before .before .before .before .before .before .before .before .before in
+    let s = at-loop-test .before .before .before .before .before .before .before .before .before .before .before .before .before .before
+    .before .before .before in
+    omega (arith, at-loop-test .loop-test .taken, s .pre .0 .order)
 
 loop-less : tie.Need-loop-less Inv-loop μ-loop
 loop-less c = search needs
 
 loop-again : tie.Need-loop-again Inv-loop μ-loop
 loop-again c =
-    let c₃ = c .before .before .before in
-    let c₅ = c₃ .before .before in
-    let c₆ = c₅ .before in
-    let c₁₁ = c₆ .before .before .before .before .before in
-    let c₁₂ = c₁₁ .before in
-    let s = c₁₂ .before .before .before .before .before .before .before .before .before .before .before .before .before .before .before .before in
-    let l = c₁₂ .loop in
+    let at-table2 = c .before .before .before in
+    let at-sums2 = at-table2 .before .before in
+    let at-sheet-row = at-sums2 .before in
+    let at-loop-test = at-sheet-row .before .before .before .before .before in
+    let turn = at-loop-test .before in
+    let s = turn .before .before .before .before .before .before .before .before .before .before .before .before .before .before .before .before in
+    let l = turn .loop in
     let v = s .args in
-    let t = c₆ .sheet-row .ensures in
+    let t = at-sheet-row .sheet-row .ensures in
     let w = v .d - l .i in
     let ts = now (v .tape) in
-    let h = c₁₁ .loop-test .taken in
+    let h = at-loop-test .loop-test .taken in
     let r = row-counts (v .d) (l .i) (l .drawn) h (l .inv .1) in
-    let o = row-room (v .d) (l .i) (l .drawn) h (l .inv .1) (now (v .out)) (l .out) (s .pre .3) (l .inv .4) in
+    let o = row-room (v .d) (l .i) (l .drawn) h (l .inv .1) (now (v .out)) (l .out) (s .pre .2) (l .inv .4) in
     let f = part-rest ts (l .drawn) ∙ ap (λ (k : ℕ). drop k ts) (l .inv .1) in (
       r .0,
       ap (_+_ (l .drawn)) (t .0) ∙ r .1,
@@ -140,33 +140,33 @@ loop-again c =
       pairs-written (suc (v .d)) (now (v .a)) (now (v .b)) ts (l .i) (l .drawn) w (l .out) _ (now (v .out))
           (l .inv .1) (r .3) (o .0) (l .inv .3) (t .1),
       c .before .out .given .1 ∙ l .inv .4,
-      c₅ .sums2 .given ∙ l .inv .5,
-      c₃ .table2 .given ∙ l .inv .6,
+      at-sums2 .sums2 .given ∙ l .inv .5,
+      at-table2 .table2 .given ∙ l .inv .6,
       gathered-row (v .d) (now (v .a)) (now (v .b)) ts (l .sums) (l .table) (s .pre .0 .order) (l .inv .6) (l .i) w _ _ _ (r .3) f
           (l .inv .5) (t .2) (t .3) (l .inv .7),
     )
 
 same-length : tie.Need-same-length Inv-loop μ-loop
 same-length c =
-    let c₁₀ = c .before .before .before .before .before .before .before .before .before .before in
-    let c₁₇ = c₁₀ .before .before .before .before .before .before .before in
-    c .before .loop .inv .5 ∙ sym (c₁₇ .pre .1)
+    let start = c .before .before .before .before .before .before .before .before .before .before .before .before .before .before
+    .before .before .before in
+    c .before .loop .inv .5 ∙ sym (start .pre .1 .summed)
 
 same-length-2 : tie.Need-same-length-2 Inv-loop μ-loop
 same-length-2 c =
-    let c₁₀ = c .before .before .before .before .before .before .before .before .before .before in
-    let c₁₇ = c₁₀ .before .before .before .before .before .before .before in
-    c .before .loop .inv .6 ∙ sym (c₁₇ .pre .2)
+    let start = c .before .before .before .before .before .before .before .before .before .before .before .before .before .before
+    .before .before .before in
+    c .before .loop .inv .6 ∙ sym (start .pre .1 .tabled)
 
 same-length-3 : tie.Need-same-length-3 Inv-loop μ-loop
 same-length-3 c = search needs
 
 returns : tie.Need-returns Inv-loop μ-loop
 returns c =
-    let c₁₀ = c .before .before .before .before .before .before .before .before .before .before in
-    let c₁₇ = c₁₀ .before .before .before .before .before .before .before in
+    let start = c .before .before .before .before .before .before .before .before .before .before .before .before .before .before
+    .before .before .before in
     let l = c .before .loop in
-    let v = c₁₇ .args in
+    let v = start .args in
     let d = v .d in
     let e : l .i ≡ d = omega arith in
     let z : l .drawn ≡ before-row (suc d) d = rw e at (l .inv .1) in

@@ -46,41 +46,41 @@ loop-holds c = (omega arith, over-none _ _, refl)
 mul-c : tie.Need-mul-c Inv-loop μ-loop
 mul-c c = search needs
 
-add-mix-by : tie.Need-add-mix-by Inv-loop μ-loop
-add-mix-by c = search needs
+add-mixed-of : tie.Need-add-mixed-of Inv-loop μ-loop
+add-mixed-of c = search needs
 
-shared-slice-read-mix-by : tie.Need-shared-slice-read-mix-by Inv-loop μ-loop
-shared-slice-read-mix-by c = search needs
+shared-slice-read-mixed-of : tie.Need-shared-slice-read-mixed-of Inv-loop μ-loop
+shared-slice-read-mixed-of c = search needs
 
-add-mix-by-2 : tie.Need-add-mix-by-2 Inv-loop μ-loop
-add-mix-by-2 c = search needs
+add-mixed-of-2 : tie.Need-add-mixed-of-2 Inv-loop μ-loop
+add-mixed-of-2 c = search needs
 
-add-mix-by-3 : tie.Need-add-mix-by-3 Inv-loop μ-loop
-add-mix-by-3 c = search needs
+add-mixed-of-3 : tie.Need-add-mixed-of-3 Inv-loop μ-loop
+add-mixed-of-3 c = search needs
 
-shared-slice-read-mix-by-2 : tie.Need-shared-slice-read-mix-by-2 Inv-loop μ-loop
-shared-slice-read-mix-by-2 c = search needs
+shared-slice-read-mixed-of-2 : tie.Need-shared-slice-read-mixed-of-2 Inv-loop μ-loop
+shared-slice-read-mixed-of-2 c = search needs
 
-add-mix-by-4 : tie.Need-add-mix-by-4 Inv-loop μ-loop
-add-mix-by-4 c = search needs
+add-mixed-of-4 : tie.Need-add-mixed-of-4 Inv-loop μ-loop
+add-mixed-of-4 c = search needs
 
-add-mix-by-5 : tie.Need-add-mix-by-5 Inv-loop μ-loop
-add-mix-by-5 c = search needs
+add-mixed-of-5 : tie.Need-add-mixed-of-5 Inv-loop μ-loop
+add-mixed-of-5 c = search needs
 
-shared-slice-read-mix-by-3 : tie.Need-shared-slice-read-mix-by-3 Inv-loop μ-loop
-shared-slice-read-mix-by-3 c = search needs
+shared-slice-read-mixed-of-3 : tie.Need-shared-slice-read-mixed-of-3 Inv-loop μ-loop
+shared-slice-read-mixed-of-3 c = search needs
 
-add-mix-by-6 : tie.Need-add-mix-by-6 Inv-loop μ-loop
-add-mix-by-6 c = search needs
+add-mixed-of-6 : tie.Need-add-mixed-of-6 Inv-loop μ-loop
+add-mixed-of-6 c = search needs
 
-add-mix-by-7 : tie.Need-add-mix-by-7 Inv-loop μ-loop
-add-mix-by-7 c = search needs
+add-mixed-of-7 : tie.Need-add-mixed-of-7 Inv-loop μ-loop
+add-mixed-of-7 c = search needs
 
-shared-slice-read-mix-by-4 : tie.Need-shared-slice-read-mix-by-4 Inv-loop μ-loop
-shared-slice-read-mix-by-4 c = search needs
+shared-slice-read-mixed-of-4 : tie.Need-shared-slice-read-mixed-of-4 Inv-loop μ-loop
+shared-slice-read-mixed-of-4 c = search needs
 
-mix-by-requires : tie.Need-mix-by-requires Inv-loop μ-loop
-mix-by-requires c κs = search needs
+mixed-of-requires : tie.Need-mixed-of-requires Inv-loop μ-loop
+mixed-of-requires c κs = search needs
 
 slice-write-s : tie.Need-slice-write-s Inv-loop μ-loop
 slice-write-s c = search needs
@@ -96,7 +96,7 @@ loop-again c =
     let loop = c .before .before .before .before .before .before in
     let a = loop .before .before .before .args in
     let l = loop .loop in
-    let byte = c .mix-by .ensures ∙ read (a .which) (now (a .t)) (l .k) (omega arith) in
+    let byte = c .mixed-of .ensures ∙ read (a .which) (now (a .t)) (l .k) (omega arith) in
     (omega arith, over-more _ (l .k) _ (l .s) (now (a .s)) (l .inv .1) byte (omega arith), simp length-set (omega arith))
 
 same-length : tie.Need-same-length Inv-loop μ-loop
@@ -118,18 +118,18 @@ mix-columns-spec =
     μ-loop
     loop-holds
     mul-c
-    add-mix-by
-    shared-slice-read-mix-by
-    add-mix-by-2
-    add-mix-by-3
-    shared-slice-read-mix-by-2
-    add-mix-by-4
-    add-mix-by-5
-    shared-slice-read-mix-by-3
-    add-mix-by-6
-    add-mix-by-7
-    shared-slice-read-mix-by-4
-    mix-by-requires
+    add-mixed-of
+    shared-slice-read-mixed-of
+    add-mixed-of-2
+    add-mixed-of-3
+    shared-slice-read-mixed-of-2
+    add-mixed-of-4
+    add-mixed-of-5
+    shared-slice-read-mixed-of-3
+    add-mixed-of-6
+    add-mixed-of-7
+    shared-slice-read-mixed-of-4
+    mixed-of-requires
     slice-write-s
     add-k
     loop-less

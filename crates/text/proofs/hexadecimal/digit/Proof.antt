@@ -17,11 +17,25 @@ returns c = simp (le-ltb _ _ (c .before .if1 .left), lt-ltb _ _ (c .if2 .taken))
 
 returns-2 : tie.Need-returns-2
 unfolding Hexadecimal.digit
-returns-2 c = simp (le-ltb _ _ (c .before .before .before .if1 .left), le-ltb _ _ (c .before .before .if2 .left), le-ltb _ _ (c .before .if3 .left), lt-ltb _ _ (c .if4 .taken))
+returns-2 c =
+    simp (
+      le-ltb _ _ (c .before .before .before .if1 .left),
+      le-ltb _ _ (c .before .before .if2 .left),
+      le-ltb _ _ (c .before .if3 .left),
+      lt-ltb _ _ (c .if4 .taken),
+    )
 
 returns-3 : tie.Need-returns-3
 unfolding Hexadecimal.digit
-returns-3 c = simp (le-ltb _ _ (c .before .before .before .before .before .if1 .left), le-ltb _ _ (c .before .before .before .before .if2 .left), le-ltb _ _ (c .before .before .before .if3 .left), le-ltb _ _ (c .before .before .if4 .left), le-ltb _ _ (c .before .if5 .left), lt-ltb _ _ (c .if6 .taken))
+returns-3 c =
+    simp (
+      le-ltb _ _ (c .before .before .before .before .before .if1 .left),
+      le-ltb _ _ (c .before .before .before .before .if2 .left),
+      le-ltb _ _ (c .before .before .before .if3 .left),
+      le-ltb _ _ (c .before .before .if4 .left),
+      le-ltb _ _ (c .before .if5 .left),
+      lt-ltb _ _ (c .if6 .taken),
+    )
 
 returns-4 : tie.Need-returns-4
 unfolding Hexadecimal.digit
@@ -33,11 +47,26 @@ returns-5 c = simp (le-ltb _ _ (c .before .before .if1 .left), le-ltb _ _ (c .be
 
 returns-6 : tie.Need-returns-6
 unfolding Hexadecimal.digit
-returns-6 c = simp (le-ltb _ _ (c .before .before .before .before .if1 .left), le-ltb _ _ (c .before .before .before .if2 .left), le-ltb _ _ (c .before .before .if3 .left), le-ltb _ _ (c .before .if4 .left), lt-ltb _ _ (c .if5 .taken))
+returns-6 c =
+    simp (
+      le-ltb _ _ (c .before .before .before .before .if1 .left),
+      le-ltb _ _ (c .before .before .before .if2 .left),
+      le-ltb _ _ (c .before .before .if3 .left),
+      le-ltb _ _ (c .before .if4 .left),
+      lt-ltb _ _ (c .if5 .taken),
+    )
 
 returns-7 : tie.Need-returns-7
 unfolding Hexadecimal.digit
-returns-7 c = simp (le-ltb _ _ (c .before .before .before .before .before .if1 .left), le-ltb _ _ (c .before .before .before .before .if2 .left), le-ltb _ _ (c .before .before .before .if3 .left), le-ltb _ _ (c .before .before .if4 .left), le-ltb _ _ (c .before .if5 .left), le-ltb _ _ (c .if6 .left))
+returns-7 c =
+    simp (
+      le-ltb _ _ (c .before .before .before .before .before .if1 .left),
+      le-ltb _ _ (c .before .before .before .before .if2 .left),
+      le-ltb _ _ (c .before .before .before .if3 .left),
+      le-ltb _ _ (c .before .before .if4 .left),
+      le-ltb _ _ (c .before .if5 .left),
+      le-ltb _ _ (c .if6 .left),
+    )
 
 pub digit-spec : {M : Type 1} → statement M
 digit-spec =

@@ -17,7 +17,8 @@ unfolding bytes
 written t o y k e h = over-all _ _ _ _ e (sym h) ∙ ap (tab (λ m. byte (at t (m * 2)) (at t (m * 2 + 1)))) h
 
 abbrev Inv-loop : tie.InvT-loop
-Inv-loop text out₀ k₀ k-end out k = (k ≤ k-end) × (k-end ≡ length out₀) × (length out ≡ length out₀) × (out ≡ over (λ m. byte (at text (m * 2)) (at text (m * 2 + 1))) k out₀)
+Inv-loop text out₀ k₀ k-end out k =
+    (k ≤ k-end) × (k-end ≡ length out₀) × (length out ≡ length out₀) × (out ≡ over (λ m. byte (at text (m * 2)) (at text (m * 2 + 1))) k out₀)
 
 abbrev μ-loop : tie.MeasureT-loop
 μ-loop text out₀ k₀ k-end out k = k-end - k
@@ -54,7 +55,12 @@ loop-less c = search needs
 
 loop-again : tie.Need-loop-again Inv-loop μ-loop
 unfolding at
-loop-again c = (omega arith, search needs, simp length-set (omega arith), over-more _ _ _ _ _ (c .before .before .before .before .loop .inv .3) (c .byte-of .ensures) (omega arith))
+loop-again c = (
+  omega arith,
+  search needs,
+  simp length-set (omega arith),
+  over-more _ _ _ _ _ (c .before .before .before .before .loop .inv .3) (c .byte-of .ensures) (omega arith),
+)
 
 same-length : tie.Need-same-length Inv-loop μ-loop
 same-length c = search needs

@@ -17,10 +17,14 @@ add-result : tie.Need-add-result
 add-result c = search needs
 
 mul-result : tie.Need-mul-result
-mul-result c = omega (arith, at-most (c .before .before .args .order) (c .before .before .args .size) (search needs) (search needs))
+mul-result c =
+    let start = c .before .before in
+    omega (arith, at-most (start .args .order) (start .args .size) (search needs) (search needs))
 
 returns-2 : tie.Need-returns-2
-returns-2 c = at-most (c .before .before .args .order) (c .before .before .args .size) (search needs) (search needs)
+returns-2 c =
+    let start = c .before .before in
+    at-most (start .args .order) (start .args .size) (search needs) (search needs)
 
 pub in-shares-spec : {M : Type 1} → statement M
 in-shares-spec = tie.close (tie.spec returns add-result mul-result returns-2)

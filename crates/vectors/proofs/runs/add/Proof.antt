@@ -30,7 +30,8 @@ shared-slice-read-sum : tie.Need-shared-slice-read-sum Inv-loop μ-loop
 shared-slice-read-sum c = search needs
 
 slice-write-sum : tie.Need-slice-write-sum Inv-loop μ-loop
-slice-write-sum c = omega (arith, mod-lt (c .before .before .before .loop .k) {m = length (c .before .before .before .before .before .args .sum .now)} (search needs))
+slice-write-sum c =
+    omega (arith, mod-lt (c .before .before .before .loop .k) {m = length (c .before .before .before .before .before .args .sum .now)} (search needs))
 
 add-k : tie.Need-add-k Inv-loop μ-loop
 add-k c = search needs

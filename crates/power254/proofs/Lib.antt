@@ -1,0 +1,3 @@
+pub mod EachLaws
+pub mod PowerLaws
+pub mod StageLaws

@@ -1,0 +1,39 @@
+-- The stages of power 254, put together from what each call leaves. Assumes nothing.
+use mathlib.Core.Path.{_≡_, refl}
+use mathlib.Core.List.{List, map}
+use Prim.Native.Nat.{ℕ, _+_, _-_}
+use lib.ListN.{length, take, drop}
+use lib.Seq.{drop-drop}
+use Rattle.gf256.specs.Field.{sixteenth}
+use Rattle.isw.specs.Place.{product-need}
+use Rattle.shares.specs.Refresh.{refreshed}
+use Rattle.shares.proofs.WriteLaws.{part-rest}
+use Rattle.power254.specs.Power254.{masked-product, stage-z, stage-y, stage-w, stage-v, stage-last, stage-need, power-254}
+
+-- what a callee gets as `&tape[k..]`
+abbrev rest : (tape : List ℕ) (k : ℕ) → List ℕ
+rest ts k = take (length ts - k) (drop k ts)
+
+module _ (d : ℕ) where
+  -- f over each share, and a refresh
+  pub refreshed-after : (f : ℕ → ℕ) (x q r ts : List ℕ) → q ≡ map f x → r ≡ refreshed d q ts → r ≡ refreshed d (map f x) ts
+  refreshed-after f x q r ts e₁ e₂ = rw (e₂, e₁) refl
+
+  -- a product of shares that are known, with the tape from k on
+  pub product-after : (k n : ℕ) (a b a′ b′ ts o : List ℕ) → k ≡ n → a ≡ a′ → b ≡ b′ → o ≡ masked-product d a b (rest ts k)
+      → o ≡ masked-product d a′ b′ (drop n ts)
+  product-after k n a b a′ b′ ts o e₁ e₂ e₃ e₄ = rw (e₄, part-rest ts k, e₁, e₂, e₃) refl
+
+  -- the last stage: q is v¹⁶, y that times w, o that times z
+  pub last-after : (k : ℕ) (v w z ts q y o : List ℕ) → q ≡ map sixteenth v → y ≡ masked-product d q w ts → k ≡ product-need d
+      → o ≡ masked-product d y z (rest ts k) → o ≡ stage-last d v w z ts
+  unfolding stage-last
+  last-after k v w z ts q y o e₁ e₂ e₃ e₄ = product-after k (product-need d) y z _ z ts o e₃ (rw (e₂, e₁) refl) refl e₄
+
+  -- the three stages, each with the tape from where the one before it ended
+  pub power-after : (k m : ℕ) (x ts z y w v o : List ℕ) → k ≡ stage-need d → z ≡ stage-z d x ts → y ≡ stage-y d x ts
+      → m ≡ stage-need d → w ≡ stage-w d y (rest ts k) → v ≡ stage-v d y (rest ts k)
+      → o ≡ stage-last d v w z (rest ts (k + m)) → o ≡ power-254 d x ts
+  unfolding power-254
+  power-after k m x ts z y w v o e₁ ez ey e₂ ew ev eo =
+      rw (eo, part-rest ts (k + m), ev, ew, part-rest ts k, ez, ey, e₁, e₂, drop-drop (stage-need d) (stage-need d) ts) refl

@@ -1,0 +1,52 @@
+-- What the routines of power 254 ask of their slices. Assumes nothing: these are definitions.
+-- Inner contracts: no document decides them.
+use mathlib.Core.Path.{_≡_}
+use mathlib.Core.List.{List}
+use Prim.Native.Nat.{ℕ, suc, _+_, _≤_}
+use lib.ListN.{length}
+use Rattle.isw.specs.Place.{product-need}
+use Rattle.shares.specs.Refresh.{refresh-need}
+use Rattle.power254.specs.Power254.{stage-need, power-need}
+
+-- what a power, refreshed, asks: the order, the shares before and after, and the tape
+pub record Refreshed-fits (d : ℕ) (x tape z : List ℕ) : Type 0 where
+  pub order : d ≤ 8
+  pub input : length x ≡ suc d
+  pub output : length z ≡ suc d
+  pub drawn : refresh-need d ≤ length tape
+
+-- what the first or the second stage asks: it makes a power (z), and a product (y)
+pub record Stage-fits (d : ℕ) (x tape z y : List ℕ) : Type 0 where
+  pub order : d ≤ 8
+  pub input : length x ≡ suc d
+  pub power : length z ≡ suc d
+  pub output : length y ≡ suc d
+  pub drawn : stage-need d ≤ length tape
+
+-- what the last stage asks
+pub record Last-fits (d : ℕ) (v w z tape y out : List ℕ) : Type 0 where
+  pub order : d ≤ 8
+  pub long-v : length v ≡ suc d
+  pub long-w : length w ≡ suc d
+  pub long-z : length z ≡ suc d
+  pub long-y : length y ≡ suc d
+  pub output : length out ≡ suc d
+  pub drawn : product-need d + product-need d ≤ length tape
+
+-- what the three stages ask
+pub record Stages-fit (d : ℕ) (x tape z w y v out : List ℕ) : Type 0 where
+  pub order : d ≤ 8
+  pub input : length x ≡ suc d
+  pub long-z : length z ≡ suc d
+  pub long-w : length w ≡ suc d
+  pub long-y : length y ≡ suc d
+  pub long-v : length v ≡ suc d
+  pub output : length out ≡ suc d
+  pub drawn : power-need d ≤ length tape
+
+-- what power 254 asks
+pub record Power-fits (d : ℕ) (x tape out : List ℕ) : Type 0 where
+  pub order : d ≤ 8
+  pub input : length x ≡ suc d
+  pub output : length out ≡ suc d
+  pub drawn : power-need d ≤ length tape

@@ -1,0 +1,2 @@
+pub mod Power254
+pub mod Fits

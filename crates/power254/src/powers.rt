@@ -1,0 +1,152 @@
+// Power 254 over shares, by document 01's chain: z = x²; refresh z; y = z·x; w = y⁴; refresh w; v = y·w; v¹⁶; v¹⁶·w; times z.
+// Each step gets the part of the tape from its first draw on, and the count rises by what it drew.
+ghost use mathlib.Core.Path.{_≡_};
+ghost use mathlib.Core.List.{map};
+ghost use Prim.Native.Nat.{_+_};
+ghost use lib.ListN.{length};
+ghost use Rattle.gf256.specs.Exponents.{raised-to};
+ghost use Rattle.gf256.specs.Tables.{Tables};
+ghost use Rattle.isw.specs.Place as Place;
+ghost use Rattle.shares.specs.Refresh as Refresh;
+ghost use Rattle.power254.specs.Power254;
+ghost use Rattle.power254.specs.Fits.{Refreshed-fits, Stage-fits, Last-fits, Stages-fit, Power-fits};
+use gf256::Antilogs;
+use gf256::Exponent;
+use gf256::Logs;
+
+// Each share of x to the power that is named, into z.
+fn raise(logs: &Logs, antilogs: &Antilogs, which: Exponent, x: &[u8], z: &mut [u8])
+    requires { ⌜ (length (now z) ≡ length (now x)) × Tables (now logs) (now antilogs) ⌝ }
+    ensures { λ _. ⌜ now (z .exit) ≡ map (raised-to which) (now (x .entry)) ⌝ }
+{
+    for k in 0..x.len() {
+        z[k] = gf256::powers::raised(logs, antilogs, which, x[k]);
+    }
+}
+
+// z = x², refreshed. Answers with how many bytes were drawn.
+fn make_z(logs: &Logs, antilogs: &Antilogs, d: usize, x: &[u8], tape: &[u8], z: &mut [u8]) -> usize
+    requires { ⌜ Refreshed-fits d (now x) (now tape) (now z) × Tables (now logs) (now antilogs) ⌝ }
+    ensures { λ r. ⌜ (r ≡ Refresh.refresh-need d) × (now (z .exit) ≡ Power254.stage-z d (now (x .entry)) (now (tape .entry))) ⌝ }
+{
+    raise(logs, antilogs, Exponent::Two, x, z);
+    shares::refreshing::refresh_core(d, tape, z)
+}
+
+// w = y⁴, refreshed. Answers with how many bytes were drawn.
+fn make_w(logs: &Logs, antilogs: &Antilogs, d: usize, y: &[u8], tape: &[u8], w: &mut [u8]) -> usize
+    requires { ⌜ Refreshed-fits d (now y) (now tape) (now w) × Tables (now logs) (now antilogs) ⌝ }
+    ensures { λ r. ⌜ (r ≡ Refresh.refresh-need d) × (now (w .exit) ≡ Power254.stage-w d (now (y .entry)) (now (tape .entry))) ⌝ }
+{
+    raise(logs, antilogs, Exponent::Four, y, w);
+    shares::refreshing::refresh_core(d, tape, w)
+}
+
+// The first stage: z, and y = z·x. Answers with how many bytes were drawn.
+fn first_stage(
+    logs: &Logs,
+    antilogs: &Antilogs,
+    d: usize,
+    x: &[u8],
+    tape: &[u8],
+    z: &mut [u8],
+    y: &mut [u8],
+) -> usize
+    requires { ⌜ Stage-fits d (now x) (now tape) (now z) (now y) × Tables (now logs) (now antilogs) ⌝ }
+    ensures { λ r. ⌜ (r ≡ Power254.stage-need d) × (now (z .exit) ≡ Power254.stage-z d (now (x .entry)) (now (tape .entry)))
+        × (now (y .exit) ≡ Power254.stage-y d (now (x .entry)) (now (tape .entry))) ⌝ }
+{
+    let drawn = make_z(logs, antilogs, d, x, tape, z);
+    drawn + masking::product::product_core(logs, antilogs, d, z, x, &tape[drawn..], y)
+}
+
+// The second stage: w, and v = y·w. Answers with how many bytes were drawn.
+fn second_stage(
+    logs: &Logs,
+    antilogs: &Antilogs,
+    d: usize,
+    y: &[u8],
+    tape: &[u8],
+    w: &mut [u8],
+    v: &mut [u8],
+) -> usize
+    requires { ⌜ Stage-fits d (now y) (now tape) (now w) (now v) × Tables (now logs) (now antilogs) ⌝ }
+    ensures { λ r. ⌜ (r ≡ Power254.stage-need d) × (now (w .exit) ≡ Power254.stage-w d (now (y .entry)) (now (tape .entry)))
+        × (now (v .exit) ≡ Power254.stage-v d (now (y .entry)) (now (tape .entry))) ⌝ }
+{
+    let drawn = make_w(logs, antilogs, d, y, tape, w);
+    drawn + masking::product::product_core(logs, antilogs, d, y, w, &tape[drawn..], v)
+}
+
+// The last stage: v¹⁶ into y, v¹⁶·w back into v, and that times z. Answers with how many bytes were drawn.
+fn last_stage(
+    logs: &Logs,
+    antilogs: &Antilogs,
+    d: usize,
+    v: &mut [u8],
+    w: &[u8],
+    z: &[u8],
+    tape: &[u8],
+    y: &mut [u8],
+    output: &mut [u8],
+) -> usize
+    requires { ⌜ Last-fits d (now v) (now w) (now z) (now tape) (now y) (now output) × Tables (now logs) (now antilogs) ⌝ }
+    ensures { λ r. ⌜ (r ≡ Place.product-need d + Place.product-need d)
+        × (now (output .exit) ≡ Power254.stage-last d (now (v .entry)) (now (w .entry)) (now (z .entry)) (now (tape .entry))) ⌝ }
+{
+    raise(logs, antilogs, Exponent::Sixteen, v, y);
+    let drawn = masking::product::product_core(logs, antilogs, d, y, w, tape, v);
+    drawn + masking::product::product_core(logs, antilogs, d, v, z, &tape[drawn..], output)
+}
+
+// The three stages, with room for z, w, y and v.
+fn power_with(
+    logs: &Logs,
+    antilogs: &Antilogs,
+    d: usize,
+    x: &[u8],
+    tape: &[u8],
+    z: &mut [u8],
+    w: &mut [u8],
+    y: &mut [u8],
+    v: &mut [u8],
+    output: &mut [u8],
+) -> usize
+    requires { ⌜ Stages-fit d (now x) (now tape) (now z) (now w) (now y) (now v) (now output) × Tables (now logs) (now antilogs) ⌝ }
+    ensures { λ r. ⌜ (r ≡ Power254.power-need d) × (now (output .exit) ≡ Power254.power-254 d (now (x .entry)) (now (tape .entry))) ⌝ }
+{
+    let first = first_stage(logs, antilogs, d, x, tape, z, y);
+    let second = first + second_stage(logs, antilogs, d, y, &tape[first..], w, v);
+    second + last_stage(logs, antilogs, d, v, w, z, &tape[second..], y, output)
+}
+
+// Power 254 of the shares of a byte. Answers with how many bytes were drawn.
+pub fn power_core(
+    logs: &Logs,
+    antilogs: &Antilogs,
+    d: usize,
+    x: &[u8],
+    tape: &[u8],
+    output: &mut [u8],
+) -> usize
+    requires { ⌜ Power-fits d (now x) (now tape) (now output) × Tables (now logs) (now antilogs) ⌝ }
+    ensures { λ r. ⌜ (r ≡ Power254.power-need d) × (now (output .exit) ≡ Power254.power-254 d (now (x .entry)) (now (tape .entry))) ⌝ }
+{
+    let mut z = [0u8; 9];
+    let mut w = [0u8; 9];
+    let mut y = [0u8; 9];
+    let mut v = [0u8; 9];
+    let n = d + 1;
+    power_with(
+        logs,
+        antilogs,
+        d,
+        x,
+        tape,
+        &mut z[0..n],
+        &mut w[0..n],
+        &mut y[0..n],
+        &mut v[0..n],
+        output,
+    )
+}
