@@ -12,7 +12,7 @@ ghost use Rattle.rounds.specs.Directions.{shifted-of, keyed-of};
 use gf256::Antilogs;
 use gf256::Direction;
 use gf256::Logs;
-use state::Step;
+use linear::Step;
 
 // Which round key is added i-th, from 0 on.
 pub fn key_number(which: Direction, nr: usize, i: usize) -> usize
@@ -40,7 +40,7 @@ fn sub_and_shift(
 {
     match which {
         Direction::Forward => {
-            let drawn = state::substitution::sub_rows(
+            let drawn = substitution::boxes::sub_rows(
                 logs,
                 antilogs,
                 Direction::Forward,
@@ -48,12 +48,12 @@ fn sub_and_shift(
                 tape,
                 s,
             );
-            state::linear::step_all(Step::ShiftRows, Direction::Forward, d, s);
+            linear::steps::step_all(Step::ShiftRows, Direction::Forward, d, s);
             drawn
         }
         Direction::Inverse => {
-            state::linear::step_all(Step::ShiftRows, Direction::Inverse, d, s);
-            state::substitution::sub_rows(logs, antilogs, Direction::Inverse, d, tape, s)
+            linear::steps::step_all(Step::ShiftRows, Direction::Inverse, d, s);
+            substitution::boxes::sub_rows(logs, antilogs, Direction::Inverse, d, tape, s)
         }
     }
 }
@@ -66,12 +66,12 @@ fn mix_and_add(which: Direction, d: usize, m: usize, r: usize, keys: &[u8], s: &
 {
     match which {
         Direction::Forward => {
-            state::linear::step_all(Step::MixColumns, Direction::Forward, d, s);
-            state::linear::add_key(d, m, r, keys, s);
+            linear::steps::step_all(Step::MixColumns, Direction::Forward, d, s);
+            linear::steps::add_key(d, m, r, keys, s);
         }
         Direction::Inverse => {
-            state::linear::add_key(d, m, r, keys, s);
-            state::linear::step_all(Step::MixColumns, Direction::Inverse, d, s);
+            linear::steps::add_key(d, m, r, keys, s);
+            linear::steps::step_all(Step::MixColumns, Direction::Inverse, d, s);
         }
     }
 }
@@ -96,7 +96,7 @@ pub fn make_round(
 {
     let drawn = sub_and_shift(logs, antilogs, which, d, tape, s);
     if last {
-        state::linear::add_key(d, m, r, keys, s);
+        linear::steps::add_key(d, m, r, keys, s);
     } else {
         mix_and_add(which, d, m, r, keys, s);
     }

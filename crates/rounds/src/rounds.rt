@@ -71,6 +71,6 @@ pub fn rounds_core(
     let m = 16 * (nr + 1);
     let first = crate::round::key_number(which, nr, 0);
     shares::bytes::put(input, output);
-    state::linear::add_key(d, m, first, keys, output);
+    linear::steps::add_key(d, m, first, keys, output);
     run_rounds(logs, antilogs, which, nr, d, m, keys, tape, output)
 }

@@ -13,8 +13,8 @@ use Rattle.shares.proofs.WriteLaws.{length-front}
 use Rattle.cipher.specs.Fips197.{rounds, total-words}
 use Rattle.cipher.specs.States.{each-by}
 use Rattle.cipher.specs.Cipher.{schedule-from, schedule-from-need, schedule, schedule-need}
-use Rattle.state.proofs.PartLaws.{laid-parts-all}
-use Rattle.state.proofs.SecondLaws.{share-long}
+use Rattle.buffers.proofs.PartLaws.{laid-parts-all}
+use Rattle.buffers.proofs.SecondLaws.{share-long}
 use Rattle.schedule.specs.Stored.{written}
 use Rattle.schedule.proofs.WrittenLaws.{each-by-shared}
 

@@ -27,8 +27,8 @@ use Rattle.schedule.specs.Stored.{stored, word-stored}
 use Rattle.cipher.proofs.StatesLaws.{map-shared}
 use Rattle.cipher.proofs.FipsLaws.{word-length, rot-word-length, every}
 use Rattle.cipher.proofs.CipherLaws.{subs-shared}
-use Rattle.state.proofs.PartLaws.{laid-parts-all}
-use Rattle.state.proofs.SecondLaws.{share-long, word-part, word-long}
+use Rattle.buffers.proofs.PartLaws.{laid-parts-all}
+use Rattle.buffers.proofs.SecondLaws.{share-long, word-part, word-long}
 
 -- ---- Rcon
 

@@ -13,7 +13,7 @@ use Rattle.cipher.specs.Fips197.{kind, word}
 use Rattle.cipher.specs.States.{adds, behind, each-by}
 use Rattle.cipher.specs.Cipher.{masked-temp, words, masked-word}
 use Rattle.cipher.proofs.CipherLaws.{temp-shared, words-shared}
-use Rattle.state.proofs.SecondLaws.{word-part}
+use Rattle.buffers.proofs.SecondLaws.{word-part}
 use Rattle.schedule.specs.Stored.{stored, word-stored, written}
 use Rattle.schedule.proofs.WordLaws.{fresh-length}
 

@@ -80,8 +80,8 @@ fn turned_temp(
     ensures { λ r. ⌜ (r ≡ subs-need d in-word)
         × (now (t .exit) ≡ laid (masked-temp d Kind.turned j (parts (suc d) 4 (now (t .entry))) (now (tape .entry)))) ⌝ }
 {
-    let drawn = state::substitution::sub_word(logs, antilogs, d, tape, t);
-    state::linear::rot_all(d, t);
+    let drawn = substitution::boxes::sub_word(logs, antilogs, d, tape, t);
+    linear::steps::rot_all(d, t);
     t[0] = t[0] ^ rcon(j);
     drawn
 }
@@ -106,7 +106,7 @@ fn make_temp(
     }
     if nk > 6 {
         if left == 4 {
-            return state::substitution::sub_word(logs, antilogs, d, tape, t);
+            return substitution::boxes::sub_word(logs, antilogs, d, tape, t);
         }
     }
     0

@@ -7,7 +7,7 @@ use denote.Ref.{now}
 use Rattle.shares.specs.Strings.{parts, laid}
 use Rattle.shares.proofs.WriteLaws.{length-part-rest}
 use Rattle.cipher.proofs.DrawingLoops.{round-loop, rounds-whole, rounds-whole-need}
-use Rattle.state.proofs.BufferLaws.{Buffered, buffered-start, buffered-room, buffered-more, buffered-taken, buffered-done}
+use Rattle.buffers.proofs.BufferLaws.{Buffered, buffered-start, buffered-room, buffered-more, buffered-taken, buffered-done}
 use Rattle.rounds.proofs.BlockLaws.{rounds-bound, round-keeps, round-made}
 use Rattle.rounds.proofs.rounds.run_rounds.Statement.{statement}
 use Rattle.rounds.proofs.rounds.run_rounds.Tie as tie

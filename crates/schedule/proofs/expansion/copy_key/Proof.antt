@@ -7,7 +7,7 @@ use denote.Ref.{now}
 use lib.ListN.{length, take, drop}
 use Rattle.shares.specs.Writes.{front}
 use Rattle.shares.proofs.StringsLaws.{part-fits}
-use Rattle.state.proofs.ShareLaws.{Done, done-none, done-more, done-all}
+use Rattle.buffers.proofs.ShareLaws.{Done, done-none, done-more, done-all}
 use Rattle.schedule.proofs.KeyLaws.{with-share, with-share-length, key-copied}
 use Rattle.schedule.proofs.expansion.copy_key.Statement.{statement}
 use Rattle.schedule.proofs.expansion.copy_key.Tie as tie

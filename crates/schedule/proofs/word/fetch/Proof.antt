@@ -9,9 +9,9 @@ use lib.ListN.{length, take, drop, length-take, length-drop}
 use Rattle.shares.specs.Strings.{laid}
 use Rattle.schedule.proofs.WordLaws.{word-copied}
 use Rattle.cipher.specs.Fips197.{word}
-use Rattle.state.proofs.PartLaws.{place-lt}
-use Rattle.state.proofs.ShareLaws.{Done, done-none, done-more, done-all}
-use Rattle.state.proofs.SecondLaws.{word-all, word-long}
+use Rattle.buffers.proofs.PartLaws.{place-lt}
+use Rattle.buffers.proofs.ShareLaws.{Done, done-none, done-more, done-all}
+use Rattle.buffers.proofs.SecondLaws.{word-all, word-long}
 use Rattle.schedule.proofs.word.fetch.Statement.{statement}
 use Rattle.schedule.proofs.word.fetch.Tie as tie
 

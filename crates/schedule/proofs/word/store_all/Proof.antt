@@ -6,8 +6,8 @@ use borrow.Author.Needs.{needs}
 use denote.Ref.{now}
 use lib.ListN.{length}
 use Rattle.schedule.specs.Stored.{stored}
-use Rattle.state.proofs.PartLaws.{place-lt}
-use Rattle.state.proofs.ShareLaws.{Done, done-none, done-more, done-all}
+use Rattle.buffers.proofs.PartLaws.{place-lt}
+use Rattle.buffers.proofs.ShareLaws.{Done, done-none, done-more, done-all}
 use Rattle.schedule.proofs.WordLaws.{stored-part}
 use Rattle.schedule.proofs.WrittenLaws.{stored-length}
 use Rattle.schedule.proofs.word.store_all.Statement.{statement}

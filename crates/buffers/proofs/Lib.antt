@@ -1,0 +1,4 @@
+pub mod PartLaws
+pub mod ShareLaws
+pub mod SecondLaws
+pub mod BufferLaws

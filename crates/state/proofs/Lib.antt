@@ -1,6 +1,0 @@
-pub mod PartLaws
-pub mod ShareLaws
-pub mod SecondLaws
-pub mod StepLaws
-pub mod BufferLaws
-pub mod SubLaws
