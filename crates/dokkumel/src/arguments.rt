@@ -2,9 +2,9 @@
 ghost use mathlib.Core.Path.{_≡_};
 ghost use Prim.Native.Nat.{_≤_};
 ghost use lib.ListN.{length};
-use crate::decimal;
-use crate::decimal::Number;
 use crate::faults;
+use text::decimal;
+use text::decimal::Number;
 use text::hexadecimal;
 
 // How many bytes stand at the front of a buffer, where they could be read.

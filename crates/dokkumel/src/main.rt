@@ -7,7 +7,6 @@ mod answers;
 mod arguments;
 mod calls;
 mod commands;
-mod decimal;
 mod faults;
 mod help;
 mod layout;

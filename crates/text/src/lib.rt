@@ -1,4 +1,5 @@
 // Text for the programs: words, numbers and bytes in hexadecimal, read and printed. No document decides it.
+pub mod decimal;
 pub mod hexadecimal;
 pub mod words;
 

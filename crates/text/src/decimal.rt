@@ -3,7 +3,7 @@ ghost use mathlib.Core.Path.{_≡_};
 ghost use mathlib.Core.Bool.{cond, false};
 ghost use lib.Dec.{ltb};
 ghost use lib.ListN.{length};
-ghost use Rattle.dokkumel.specs.Decimal as Decimal;
+ghost use Rattle.text.specs.Decimal as Decimal;
 
 // A number, where the text is one.
 pub struct Number {

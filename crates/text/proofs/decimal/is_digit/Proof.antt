@@ -1,8 +1,8 @@
--- `dokkumel::decimal::is_digit` meets its contract. Assumes nothing.
+-- `text::decimal::is_digit` meets its contract. Assumes nothing.
 use borrow.Author.Tests.{lt-ltb, le-ltb}
-use Rattle.dokkumel.specs.Decimal as Decimal
-use Rattle.dokkumel.proofs.decimal.is_digit.Statement.{statement}
-use Rattle.dokkumel.proofs.decimal.is_digit.Tie as tie
+use Rattle.text.specs.Decimal as Decimal
+use Rattle.text.proofs.decimal.is_digit.Statement.{statement}
+use Rattle.text.proofs.decimal.is_digit.Tie as tie
 
 returns : tie.Need-returns
 unfolding Decimal.is-decimal

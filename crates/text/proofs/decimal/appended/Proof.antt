@@ -1,9 +1,9 @@
--- `dokkumel::decimal::appended` meets its contract. Assumes nothing.
+-- `text::decimal::appended` meets its contract. Assumes nothing.
 use borrow.Author.Needs.{needs}
 use borrow.Author.Tests.{lt-ltb, le-ltb}
-use Rattle.dokkumel.specs.Decimal as Decimal
-use Rattle.dokkumel.proofs.decimal.appended.Statement.{statement}
-use Rattle.dokkumel.proofs.decimal.appended.Tie as tie
+use Rattle.text.specs.Decimal as Decimal
+use Rattle.text.proofs.decimal.appended.Statement.{statement}
+use Rattle.text.proofs.decimal.appended.Tie as tie
 
 returns : tie.Need-returns
 unfolding Decimal.appended

@@ -1,7 +1,7 @@
--- `dokkumel::decimal::followed` meets its contract. Assumes nothing.
+-- `text::decimal::followed` meets its contract. Assumes nothing.
 use borrow.Author.Needs.{needs}
-use Rattle.dokkumel.proofs.decimal.followed.Statement.{statement}
-use Rattle.dokkumel.proofs.decimal.followed.Tie as tie
+use Rattle.text.proofs.decimal.followed.Statement.{statement}
+use Rattle.text.proofs.decimal.followed.Tie as tie
 
 appended-requires : tie.Need-appended-requires
 appended-requires c κs = search needs

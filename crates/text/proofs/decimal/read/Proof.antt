@@ -1,4 +1,4 @@
--- `dokkumel::decimal::read` meets its contract. Assumes nothing.
+-- `text::decimal::read` meets its contract. Assumes nothing.
 use mathlib.Core.Path.{_≡_, refl, sym, ap, _∙_}
 use Prim.Native.Nat.{ℕ, _+_, _≤_, _<_, _-_}
 use native.Mathlib.Numerals.{add-one}
@@ -10,9 +10,9 @@ use denote.Ref.{now}
 use lib.Dec.{ltb}
 use lib.ListN.{length, drop, getD, drop-of-length-le}
 use lib.Seq.{drop-cons}
-use Rattle.dokkumel.specs.Decimal.{is-decimal, appended, number-from, decimal-from}
-use Rattle.dokkumel.proofs.decimal.read.Statement.{statement}
-use Rattle.dokkumel.proofs.decimal.read.Tie as tie
+use Rattle.text.specs.Decimal.{is-decimal, appended, number-from, decimal-from}
+use Rattle.text.proofs.decimal.read.Statement.{statement}
+use Rattle.text.proofs.decimal.read.Tie as tie
 
 -- one character more
 more-number : (t : List ℕ) (k v w n : ℕ) → w ≡ appended v (getD t k 0) → number-from v (drop k t) ≡ n → k < length t
