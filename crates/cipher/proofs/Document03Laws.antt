@@ -27,7 +27,7 @@ use Rattle.shares.specs.Refresh.{into, pairs-refreshed, refresh-pairs, refreshe
 use Rattle.shares.specs.Strings.{Shares, Shared}
 use Rattle.shares.proofs.RefreshLaws.{refresh-need-is, length-refreshed}
 use Rattle.shares.proofs.StringsLaws.{shared-parts}
-use Rattle.power254.specs.Power254.{masked-product, stage-z, stage-y, stage-w, stage-v, stage-last, stage-need, power-254, power-need}
+use Rattle.power254.specs.Power254.{masked-product, stage-z, stage-y, stage-w, stage-v, stage-last, stage-need, power-254}
 use Rattle.sbox.specs.Box.{corrected, affine-shares, box, box-need}
 use Rattle.sbox.proofs.BoxLaws.{length-box-of, box-need-is}
 use Rattle.cipher.specs.Fips197.{Kind, turned, subbed, plain, kind, shift-rows, mix-columns, rot-word, rounds, total-words}

@@ -68,8 +68,8 @@ counted d = omega (
 -- document 01's table: a row for each size of key, at orders 1, 2 and 8
 pub tape-table : map (λ nk. map (cipher-need nk) (1 ∷ 2 ∷ 8 ∷ [])) (4 ∷ 6 ∷ 8 ∷ [])
     ≡ (1200 ∷ 3200 ∷ 32000 ∷ []) ∷ (1344 ∷ 3584 ∷ 35840 ∷ []) ∷ (1656 ∷ 4416 ∷ 44160 ∷ []) ∷ []
-unfolding cipher-need encrypted-with-need rounds-need schedule-need schedule-from-need temp-need kind subs-need rounds total-words power-need stage-need
-    refresh-need refresh-pairs product-need before-row tab runs
+unfolding cipher-need encrypted-with-need rounds-need schedule-need schedule-from-need temp-need kind subs-need rounds total-words power-need
+    stage-need refresh-need refresh-pairs product-need before-row tab runs
 tape-table = refl
 
 -- ---- all that a call for a block or a key can take: a row for each order from 1 to 8, with keys of 16, 24 and 32 bytes
@@ -80,20 +80,20 @@ by-order need = map (λ d. map (λ nk. need nk d) (4 ∷ 6 ∷ 8 ∷ [])) (1 ∷
 pub preparation-table : by-order schedule-need
     ≡ (240 ∷ 192 ∷ 312 ∷ []) ∷ (640 ∷ 512 ∷ 832 ∷ []) ∷ (1200 ∷ 960 ∷ 1560 ∷ []) ∷ (1920 ∷ 1536 ∷ 2496 ∷ []) ∷ (2800 ∷ 2240 ∷ 3640 ∷ [])
     ∷ (3840 ∷ 3072 ∷ 4992 ∷ []) ∷ (5040 ∷ 4032 ∷ 6552 ∷ []) ∷ (6400 ∷ 5120 ∷ 8320 ∷ []) ∷ []
-unfolding cipher-need encrypted-with-need rounds-need schedule-need schedule-from-need temp-need kind subs-need rounds total-words power-need stage-need
-    refresh-need refresh-pairs product-need before-row tab runs
+unfolding cipher-need encrypted-with-need rounds-need schedule-need schedule-from-need temp-need kind subs-need rounds total-words power-need
+    stage-need refresh-need refresh-pairs product-need before-row tab runs
 preparation-table = refl
 
 pub rounds-table : by-order encrypted-with-need
     ≡ (960 ∷ 1152 ∷ 1344 ∷ []) ∷ (2560 ∷ 3072 ∷ 3584 ∷ []) ∷ (4800 ∷ 5760 ∷ 6720 ∷ []) ∷ (7680 ∷ 9216 ∷ 10752 ∷ []) ∷ (11200 ∷ 13440 ∷ 15680 ∷ [])
     ∷ (15360 ∷ 18432 ∷ 21504 ∷ []) ∷ (20160 ∷ 24192 ∷ 28224 ∷ []) ∷ (25600 ∷ 30720 ∷ 35840 ∷ []) ∷ []
-unfolding cipher-need encrypted-with-need rounds-need schedule-need schedule-from-need temp-need kind subs-need rounds total-words power-need stage-need
-    refresh-need refresh-pairs product-need before-row tab runs
+unfolding cipher-need encrypted-with-need rounds-need schedule-need schedule-from-need temp-need kind subs-need rounds total-words power-need
+    stage-need refresh-need refresh-pairs product-need before-row tab runs
 rounds-table = refl
 
 pub single-table : by-order cipher-need
     ≡ (1200 ∷ 1344 ∷ 1656 ∷ []) ∷ (3200 ∷ 3584 ∷ 4416 ∷ []) ∷ (6000 ∷ 6720 ∷ 8280 ∷ []) ∷ (9600 ∷ 10752 ∷ 13248 ∷ []) ∷ (14000 ∷ 15680 ∷ 19320 ∷ [])
     ∷ (19200 ∷ 21504 ∷ 26496 ∷ []) ∷ (25200 ∷ 28224 ∷ 34776 ∷ []) ∷ (32000 ∷ 35840 ∷ 44160 ∷ []) ∷ []
-unfolding cipher-need encrypted-with-need rounds-need schedule-need schedule-from-need temp-need kind subs-need rounds total-words power-need stage-need
-    refresh-need refresh-pairs product-need before-row tab runs
+unfolding cipher-need encrypted-with-need rounds-need schedule-need schedule-from-need temp-need kind subs-need rounds total-words power-need
+    stage-need refresh-need refresh-pairs product-need before-row tab runs
 single-table = refl

@@ -1,5 +1,5 @@
--- What the command `preview` asks: the library's preview on the lengths of the arguments. Assumes nothing: these are definitions. Document 02, wish 4,
--- decides the previews.
+-- What the command `preview` asks: the library's preview on the lengths of the arguments. Document 02, wish 4, decides the previews.
+-- Assumes nothing: these are definitions.
 use Prim.Native.Nat.{ℕ}
 use Rattle.shares.specs.Outcome.{Outcome}
 use Rattle.lengths.specs.Previews.{Encrypt-preview, Decrypt-preview, Prepare-preview, Encrypt-prepared-preview}

@@ -1,7 +1,7 @@
 // The command `tape`: which bytes of the tape go into which step of an encryption or decryption.
-use crate::answers;
 use crate::arguments;
 use shares::Refusal;
+use text::answers;
 
 fn run_on(order: usize, size: usize) {
     if !shares::answers::served(order) {

@@ -1,7 +1,7 @@
 // The command `places`: the places of a product by number and name.
-use crate::answers;
 use crate::arguments;
 use shares::Refusal;
+use text::answers;
 
 pub fn run() {
     let order = arguments::number(2, b"ORDER");

@@ -4,12 +4,12 @@ ghost use mathlib.Core.Path.{_≡_};
 ghost use mathlib.Core.List.{[]};
 ghost use Rattle.shares.specs.Outcome.{outcome};
 ghost use Rattle.dokkumel.specs.Previewed.{previewed};
-use crate::answers;
 use crate::arguments;
 use crate::commands;
 use crate::commands::Command;
 use crate::faults;
 use shares::Answer;
+use text::answers;
 
 // The calls that can be asked about.
 pub enum Route {

@@ -1,9 +1,9 @@
 // The command `read`: the bytes at the places that the arguments behind the tape name.
 ghost use mathlib.Core.Path.{_≡_};
 ghost use lib.ListN.{length};
-use crate::answers;
 use crate::arguments;
 use crate::faults;
+use text::answers;
 
 // Room for more places than the library serves at any order.
 fn list_buffer() -> [u16; 256]

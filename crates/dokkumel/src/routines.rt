@@ -3,10 +3,10 @@ ghost use mathlib.Core.Path.{_≡_};
 ghost use Prim.Native.Nat.{_≤_};
 ghost use Rattle.shares.specs.Outcome.{outcome};
 ghost use Rattle.dokkumel.specs.Called.{called};
-use crate::answers;
 use crate::commands::Command;
 use shares::Answer;
 use shares::Refusal;
+use text::answers;
 
 // How long a string of that size is in n shares; 0 above 32 bytes, where no routine takes it.
 fn in_shares(n: usize, size: usize) -> usize

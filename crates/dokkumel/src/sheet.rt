@@ -1,6 +1,6 @@
 // The command `sheet`: all places of a product with their bytes.
-use crate::answers;
 use shares::Answer;
+use text::answers;
 
 // The sheet goes into a buffer of that size.
 fn run_in(order: usize, left: &[u8], right: &[u8], tape: &[u8], sheet: &mut [u8]) {

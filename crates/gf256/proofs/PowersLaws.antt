@@ -8,7 +8,7 @@ use Rattle.xor.specs.Lists.{at}
 use Rattle.xor.specs.Digit.{if-set}
 use Rattle.gf256.specs.Field.{doubled, times-from, times, squared, fourth, sixteenth, power}
 use Rattle.gf256.specs.Exponents.{raised-to, half-of}
-use Rattle.gf256.specs.Tables.{Antilog-table, Tables}
+use Rattle.gf256.specs.Tables.{Tables}
 use Rattle.gf256.specs.declared.Exponent.{Exponent}
 use Rattle.gf256.specs.declared.Exponent.the-variants.{Two, Four, Sixteen}
 use Rattle.gf256.proofs.ProductLaws.{times-one-l}

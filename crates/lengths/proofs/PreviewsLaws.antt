@@ -12,9 +12,9 @@ use Rattle.shares.specs.declared.Answer.{Answer}
 use Rattle.shares.specs.declared.Answer.the-variants.{Taken, Refused}
 use Rattle.shares.specs.Outcome.{Test, answered, took, served, reaches}
 use Rattle.shares.proofs.OutcomeLaws.{Passed, _and_, answered-here, answered-next, answered-taken, served-bounds, reaches-le}
-use Rattle.cipher.specs.Cipher.{schedule-need, encrypted-with-need, cipher-need}
-use Rattle.lengths.specs.Lengths.{key-words, prepared-length, prepared-words}
-use Rattle.lengths.specs.Previews.{Keyed, Block-tests, Single-tests, Preparation-tests, Prepared-tests}
+use Rattle.cipher.specs.Cipher.{schedule-need}
+use Rattle.lengths.specs.Lengths.{key-words, prepared-length}
+use Rattle.lengths.specs.Previews.{Keyed, Block-tests, Preparation-tests}
 
 -- ---- the order and the key, as the code tests them: nk words were found
 

@@ -1,17 +1,16 @@
 -- What the tests of a call on two factors say, and what is known where they let it through. Assumes nothing.
 use mathlib.Core.Path.{_≡_, refl, sym, ap, _∙_}
-use mathlib.Core.Bool.{Bool, true, false, cond}
-use mathlib.Core.List.{_∷_, []}
+use mathlib.Core.Bool.{Bool, true, false}
 use Prim.Native.Nat.{ℕ, suc, _≤_}
 use borrow.Author.Tests.{eqb-true}
 use lib.Dec.{eqb}
-use Rattle.xor.proofs.Tests.{and-true, true-false}
+use Rattle.xor.proofs.Tests.{and-true}
 use Rattle.isw.specs.Place.{product-need}
-use Rattle.shares.specs.declared.Refusal.the-variants.{Order, Input, Output, Tape}
+use Rattle.shares.specs.declared.Refusal.the-variants.{Order}
 use Rattle.shares.specs.declared.Count.{Count}
 use Rattle.shares.specs.declared.Answer.{Answer}
 use Rattle.shares.specs.declared.Answer.the-variants.{Taken}
-use Rattle.shares.specs.Outcome.{test, answered, took, served, reaches}
+use Rattle.shares.specs.Outcome.{test, answered, served, reaches}
 use Rattle.shares.proofs.OutcomeLaws.{Passed, _and_, answered-here, answered-taken, served-bounds, reaches-le}
 use Rattle.masking.specs.Calls.{two-fit, Factor-tests}
 

@@ -13,7 +13,7 @@ use Rattle.shares.specs.declared.Refusal.the-variants.{Order, Key, Input
 use Rattle.shares.specs.declared.Count.{Count}
 use Rattle.shares.specs.declared.Answer.{Answer}
 use Rattle.shares.specs.declared.Answer.the-variants.{Taken, Refused}
-use Rattle.shares.specs.Outcome.{Outcome, done, refused, number, outcome, Test, test, answered, ended, settled, served, reaches}
+use Rattle.shares.specs.Outcome.{done, refused, number, outcome, Test, test, answered, ended, settled, served, reaches}
 
 never : (r : Refusal) (k : Count) → Refused r ≡ Taken k → ⊥
 never r k e = let z : _≡_ {A = ℕ} 0 1 = cc in omega arith

@@ -1,4 +1,5 @@
-// Text for the programs: words, numbers and bytes in hexadecimal, read and printed. No document decides it.
+// Text for the programs: words, numbers and bytes in hexadecimal, read and printed, and answers in document 01's words.
+pub mod answers;
 pub mod decimal;
 pub mod hexadecimal;
 pub mod words;

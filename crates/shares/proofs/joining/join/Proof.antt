@@ -1,5 +1,5 @@
 -- `shares::joining::join` meets its contract. Assumes nothing.
-use mathlib.Core.Path.{_≡_, refl, ap, sym, _∙_}
+use mathlib.Core.Path.{refl, ap, sym, _∙_}
 use Prim.Native.Nat.{ℕ, suc, _*_}
 use borrow.Author.Needs.{needs}
 use denote.Ref.{now}

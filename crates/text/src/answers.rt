@@ -1,28 +1,28 @@
 // Answers of the library, as lines on standard output, with document 01's numbers and words.
+use crate::hexadecimal;
 use shares::Answer;
 use shares::Count;
 use shares::Refusal;
-use text::hexadecimal;
 
 // The table's causes. The bytes c2 b7 are its dot, in UTF-8.
 pub fn print_refused(r: Refusal) {
     match r {
-        Refusal::Order => text::print(b"refused 1: order is 0 or above 8\n"),
-        Refusal::Key => text::print(
+        Refusal::Order => crate::print(b"refused 1: order is 0 or above 8\n"),
+        Refusal::Key => crate::print(
             b"refused 2: key share length isn't n\xc2\xb716, n\xc2\xb724 or n\xc2\xb732\n",
         ),
-        Refusal::Input => text::print(b"refused 3: an input's length doesn't fit\n"),
-        Refusal::Output => text::print(b"refused 4: output length isn't the one required\n"),
-        Refusal::Tape => text::print(b"refused 5: tape shorter than the call needs\n"),
-        Refusal::List => text::print(b"refused 6: place list longer than d\n"),
-        Refusal::Place => text::print(b"refused 7: some listed place number isn't below P(d)\n"),
+        Refusal::Input => crate::print(b"refused 3: an input's length doesn't fit\n"),
+        Refusal::Output => crate::print(b"refused 4: output length isn't the one required\n"),
+        Refusal::Tape => crate::print(b"refused 5: tape shorter than the call needs\n"),
+        Refusal::List => crate::print(b"refused 6: place list longer than d\n"),
+        Refusal::Place => crate::print(b"refused 7: some listed place number isn't below P(d)\n"),
     }
 }
 
 // The same for a call on prepared keys, whose lengths document 02 adds to cause 2.
 fn print_refused_on_prepared(r: Refusal) {
     match r {
-        Refusal::Key => text::print(
+        Refusal::Key => crate::print(
             b"refused 2: prepared length isn't n\xc2\xb7176, n\xc2\xb7208 or n\xc2\xb7240\n",
         ),
         _ => print_refused(r),
@@ -30,17 +30,17 @@ fn print_refused_on_prepared(r: Refusal) {
 }
 
 pub fn print_taken(count: Count) {
-    text::print_with(b"taken ", count.taken);
-    text::print(b"\n");
+    crate::print_with(b"taken ", count.taken);
+    crate::print(b"\n");
 }
 
 // An answer, with the output where the call was carried through.
 pub fn print(a: Answer, output: &[u8]) {
     match a {
         Answer::Taken(count) => {
-            text::print(b"output ");
+            crate::print(b"output ");
             hexadecimal::print(output);
-            text::print(b"\n");
+            crate::print(b"\n");
             print_taken(count)
         }
         Answer::Refused(r) => print_refused(r),
