@@ -1,4 +1,5 @@
-/* main [SEED [CALLS]]: known answers through the C interface, then random calls that are compared. The seed is printed: give it to run the same calls again. */
+/* main [SEED [CALLS]]: known answers through the C interface, then random calls that are compared. The seed is printed: give it to run the same
+   calls again. */
 #include "calls.h"
 #include "known.h"
 
