@@ -1,9 +1,8 @@
 -- The stages of power 254, put together from what each call leaves. Assumes nothing.
 use mathlib.Core.Path.{_≡_, refl}
 use mathlib.Core.List.{List, map}
-use Prim.Native.Nat.{ℕ, _+_, _-_}
+use Prim.Native.Nat.{ℕ, _-_}
 use lib.ListN.{length, take, drop}
-use lib.Seq.{drop-drop}
 use Rattle.gf256.specs.Field.{sixteenth}
 use Rattle.isw.specs.Place.{product-need}
 use Rattle.shares.specs.Refresh.{refreshed}
@@ -30,10 +29,13 @@ module _ (d : ℕ) where
   unfolding stage-last
   last-after k v w z ts q y o e₁ e₂ e₃ e₄ = product-after k (product-need d) y z _ z ts o e₃ (rw (e₂, e₁) refl) refl e₄
 
-  -- the three stages, each with the tape from where the one before it ended
-  pub power-after : (k m : ℕ) (x ts z y w v o : List ℕ) → k ≡ stage-need d → z ≡ stage-z d x ts → y ≡ stage-y d x ts
-      → m ≡ stage-need d → w ≡ stage-w d y (rest ts k) → v ≡ stage-v d y (rest ts k)
-      → o ≡ stage-last d v w z (rest ts (k + m)) → o ≡ power-254 d x ts
+  -- the second and the last stage, which gets the tape from where the second ended
+  pub later-after : (k : ℕ) (y z ts w v o : List ℕ) → k ≡ stage-need d → w ≡ stage-w d y ts → v ≡ stage-v d y ts
+      → o ≡ stage-last d v w z (rest ts k) → o ≡ stage-last d (stage-v d y ts) (stage-w d y ts) z (drop (stage-need d) ts)
+  later-after k y z ts w v o e ew ev eo = rw (eo, part-rest ts k, ev, ew, e) refl
+
+  -- the first stage, and the later ones with the tape from where it ended
+  pub power-after : (k : ℕ) (x ts z y o : List ℕ) → k ≡ stage-need d → z ≡ stage-z d x ts → y ≡ stage-y d x ts
+      → o ≡ stage-last d (stage-v d y (rest ts k)) (stage-w d y (rest ts k)) z (drop (stage-need d) (rest ts k)) → o ≡ power-254 d x ts
   unfolding power-254
-  power-after k m x ts z y w v o e₁ ez ey e₂ ew ev eo =
-      rw (eo, part-rest ts (k + m), ev, ew, part-rest ts k, ez, ey, e₁, e₂, drop-drop (stage-need d) (stage-need d) ts) refl
+  power-after k x ts z y o e ez ey eo = rw (eo, part-rest ts k, ez, ey, e) refl

@@ -24,29 +24,24 @@ pub record Stage-fits (d : ℕ) (x tape z y : List ℕ) : Type 0 where
   pub drawn : stage-need d ≤ length tape
 
 -- what the last stage asks
-pub record Last-fits (d : ℕ) (v w z tape y out : List ℕ) : Type 0 where
+pub record Last-fits (d : ℕ) (w z tape y v : List ℕ) : Type 0 where
   pub order : d ≤ 8
-  pub long-v : length v ≡ suc d
   pub long-w : length w ≡ suc d
   pub long-z : length z ≡ suc d
   pub long-y : length y ≡ suc d
-  pub output : length out ≡ suc d
+  pub long-v : length v ≡ suc d
   pub drawn : product-need d + product-need d ≤ length tape
 
--- what the three stages ask
-pub record Stages-fit (d : ℕ) (x tape z w y v out : List ℕ) : Type 0 where
+-- what the second and the last stage ask together
+pub record Later-fits (d : ℕ) (z tape y x : List ℕ) : Type 0 where
   pub order : d ≤ 8
-  pub input : length x ≡ suc d
   pub long-z : length z ≡ suc d
-  pub long-w : length w ≡ suc d
   pub long-y : length y ≡ suc d
-  pub long-v : length v ≡ suc d
-  pub output : length out ≡ suc d
-  pub drawn : power-need d ≤ length tape
+  pub long-x : length x ≡ suc d
+  pub drawn : stage-need d + (product-need d + product-need d) ≤ length tape
 
 -- what power 254 asks
-pub record Power-fits (d : ℕ) (x tape out : List ℕ) : Type 0 where
+pub record Power-fits (d : ℕ) (x tape : List ℕ) : Type 0 where
   pub order : d ≤ 8
-  pub input : length x ≡ suc d
-  pub output : length out ≡ suc d
+  pub long : length x ≡ suc d
   pub drawn : power-need d ≤ length tape

@@ -3,13 +3,13 @@
 ghost use mathlib.Core.Path.{_≡_};
 ghost use mathlib.Core.List.{map};
 ghost use Prim.Native.Nat.{_+_};
-ghost use lib.ListN.{length};
+ghost use lib.ListN.{length, drop};
 ghost use Rattle.gf256.specs.Exponents.{raised-to};
 ghost use Rattle.gf256.specs.Tables.{Tables};
 ghost use Rattle.isw.specs.Place as Place;
 ghost use Rattle.shares.specs.Refresh as Refresh;
 ghost use Rattle.power254.specs.Power254;
-ghost use Rattle.power254.specs.Fits.{Refreshed-fits, Stage-fits, Last-fits, Stages-fit, Power-fits};
+ghost use Rattle.power254.specs.Fits.{Refreshed-fits, Stage-fits, Last-fits, Later-fits, Power-fits};
 use gf256::Antilogs;
 use gf256::Exponent;
 use gf256::Logs;
@@ -21,6 +21,16 @@ fn raise(logs: &Logs, antilogs: &Antilogs, which: Exponent, x: &[u8], z: &mut [u
 {
     for k in 0..x.len() {
         z[k] = gf256::powers::raised(logs, antilogs, which, x[k]);
+    }
+}
+
+// The same, over x.
+fn raise_in_place(logs: &Logs, antilogs: &Antilogs, which: Exponent, x: &mut [u8])
+    requires { ⌜ Tables (now logs) (now antilogs) ⌝ }
+    ensures { λ _. ⌜ now (x .exit) ≡ map (raised-to which) (now (x .entry)) ⌝ }
+{
+    for k in 0..x.len() {
+        x[k] = gf256::powers::raised(logs, antilogs, which, x[k]);
     }
 }
 
@@ -78,75 +88,58 @@ fn second_stage(
     drawn + masking::product::product_core(logs, antilogs, d, y, w, &tape[drawn..], v)
 }
 
-// The last stage: v¹⁶ into y, v¹⁶·w back into v, and that times z. Answers with how many bytes were drawn.
+// The last stage: v¹⁶, v¹⁶·w into y, and that times z back into v. Answers with how many bytes were drawn.
 fn last_stage(
     logs: &Logs,
     antilogs: &Antilogs,
     d: usize,
-    v: &mut [u8],
     w: &[u8],
     z: &[u8],
     tape: &[u8],
     y: &mut [u8],
-    output: &mut [u8],
-) -> usize
-    requires { ⌜ Last-fits d (now v) (now w) (now z) (now tape) (now y) (now output) × Tables (now logs) (now antilogs) ⌝ }
-    ensures { λ r. ⌜ (r ≡ Place.product-need d + Place.product-need d)
-        × (now (output .exit) ≡ Power254.stage-last d (now (v .entry)) (now (w .entry)) (now (z .entry)) (now (tape .entry))) ⌝ }
-{
-    raise(logs, antilogs, Exponent::Sixteen, v, y);
-    let drawn = masking::product::product_core(logs, antilogs, d, y, w, tape, v);
-    drawn + masking::product::product_core(logs, antilogs, d, v, z, &tape[drawn..], output)
-}
-
-// The three stages, with room for z, w, y and v.
-fn power_with(
-    logs: &Logs,
-    antilogs: &Antilogs,
-    d: usize,
-    x: &[u8],
-    tape: &[u8],
-    z: &mut [u8],
-    w: &mut [u8],
-    y: &mut [u8],
     v: &mut [u8],
-    output: &mut [u8],
 ) -> usize
-    requires { ⌜ Stages-fit d (now x) (now tape) (now z) (now w) (now y) (now v) (now output) × Tables (now logs) (now antilogs) ⌝ }
-    ensures { λ r. ⌜ (r ≡ Power254.power-need d) × (now (output .exit) ≡ Power254.power-254 d (now (x .entry)) (now (tape .entry))) ⌝ }
+    requires { ⌜ Last-fits d (now w) (now z) (now tape) (now y) (now v) × Tables (now logs) (now antilogs) ⌝ }
+    ensures { λ r. ⌜ (r ≡ Place.product-need d + Place.product-need d)
+        × (now (v .exit) ≡ Power254.stage-last d (now (v .entry)) (now (w .entry)) (now (z .entry)) (now (tape .entry))) ⌝ }
 {
-    let first = first_stage(logs, antilogs, d, x, tape, z, y);
-    let second = first + second_stage(logs, antilogs, d, y, &tape[first..], w, v);
-    second + last_stage(logs, antilogs, d, v, w, z, &tape[second..], y, output)
+    raise_in_place(logs, antilogs, Exponent::Sixteen, v);
+    let drawn = masking::product::product_core(logs, antilogs, d, v, w, tape, y);
+    drawn + masking::product::product_core(logs, antilogs, d, y, z, &tape[drawn..], v)
 }
 
-// Power 254 of the shares of a byte. Answers with how many bytes were drawn.
-pub fn power_core(
+// The second and the last stage; x is what z was made of, and is overwritten. Answers with how many bytes were drawn.
+fn later_stages(
     logs: &Logs,
     antilogs: &Antilogs,
     d: usize,
-    x: &[u8],
+    z: &[u8],
     tape: &[u8],
-    output: &mut [u8],
+    y: &mut [u8],
+    x: &mut [u8],
 ) -> usize
-    requires { ⌜ Power-fits d (now x) (now tape) (now output) × Tables (now logs) (now antilogs) ⌝ }
-    ensures { λ r. ⌜ (r ≡ Power254.power-need d) × (now (output .exit) ≡ Power254.power-254 d (now (x .entry)) (now (tape .entry))) ⌝ }
+    requires { ⌜ Later-fits d (now z) (now tape) (now y) (now x) × Tables (now logs) (now antilogs) ⌝ }
+    ensures { λ r. ⌜ (r ≡ Power254.stage-need d + (Place.product-need d + Place.product-need d))
+        × (now (x .exit) ≡ Power254.stage-last d (Power254.stage-v d (now (y .entry)) (now (tape .entry)))
+        (Power254.stage-w d (now (y .entry)) (now (tape .entry))) (now (z .entry)) (drop (Power254.stage-need d) (now (tape .entry)))) ⌝ }
 {
-    let mut z = [0u8; 9];
-    let mut w = [0u8; 9];
-    let mut y = [0u8; 9];
-    let mut v = [0u8; 9];
+    let mut room = [0u8; 9];
     let n = d + 1;
-    power_with(
-        logs,
-        antilogs,
-        d,
-        x,
-        tape,
-        &mut z[0..n],
-        &mut w[0..n],
-        &mut y[0..n],
-        &mut v[0..n],
-        output,
-    )
+    let w = &mut room[0..n];
+    let drawn = second_stage(logs, antilogs, d, y, tape, w, x);
+    drawn + last_stage(logs, antilogs, d, w, z, &tape[drawn..], y, x)
+}
+
+// Power 254 of the shares of a byte, in place. Answers with how many bytes were drawn.
+pub fn power_core(logs: &Logs, antilogs: &Antilogs, d: usize, tape: &[u8], x: &mut [u8]) -> usize
+    requires { ⌜ Power-fits d (now x) (now tape) × Tables (now logs) (now antilogs) ⌝ }
+    ensures { λ r. ⌜ (r ≡ Power254.power-need d) × (now (x .exit) ≡ Power254.power-254 d (now (x .entry)) (now (tape .entry))) ⌝ }
+{
+    let mut squares = [0u8; 9];
+    let mut cubes = [0u8; 9];
+    let n = d + 1;
+    let z = &mut squares[0..n];
+    let y = &mut cubes[0..n];
+    let drawn = first_stage(logs, antilogs, d, x, tape, z, y);
+    drawn + later_stages(logs, antilogs, d, z, &tape[drawn..], y, x)
 }

@@ -57,55 +57,40 @@ pub fn box_need(d: usize) -> usize
     2 * d * d + 4 * d
 }
 
-// The S-box of the shares of a byte. Answers with how many bytes were drawn.
-fn box_core(
-    logs: &Logs,
-    antilogs: &Antilogs,
-    d: usize,
-    x: &[u8],
-    tape: &[u8],
-    output: &mut [u8],
-) -> usize
-    requires { ⌜ Power-fits d (now x) (now tape) (now output) × Tables (now logs) (now antilogs) ⌝ }
-    ensures { λ r. ⌜ (r ≡ Box.box-need d) × (now (output .exit) ≡ Box.box d (now (x .entry)) (now (tape .entry))) ⌝ }
+// The S-box of the shares of a byte, in place. Answers with how many bytes were drawn.
+fn box_core(logs: &Logs, antilogs: &Antilogs, d: usize, tape: &[u8], x: &mut [u8]) -> usize
+    requires { ⌜ Power-fits d (now x) (now tape) × Tables (now logs) (now antilogs) ⌝ }
+    ensures { λ r. ⌜ (r ≡ Box.box-need d) × (now (x .exit) ≡ Box.box d (now (x .entry)) (now (tape .entry))) ⌝ }
 {
-    let drawn = power254::powers::power_core(logs, antilogs, d, x, tape, output);
-    affine_shares(Direction::Forward, d, output);
+    let drawn = power254::powers::power_core(logs, antilogs, d, tape, x);
+    affine_shares(Direction::Forward, d, x);
     drawn
 }
 
-// The inverse S-box of the shares of a byte, which are used up. Answers with how many bytes were drawn.
-fn inverse_box_core(
-    logs: &Logs,
-    antilogs: &Antilogs,
-    d: usize,
-    x: &mut [u8],
-    tape: &[u8],
-    output: &mut [u8],
-) -> usize
-    requires { ⌜ Power-fits d (now x) (now tape) (now output) × Tables (now logs) (now antilogs) ⌝ }
-    ensures { λ r. ⌜ (r ≡ Box.box-need d) × (now (output .exit) ≡ Box.inverse-box d (now (x .entry)) (now (tape .entry))) ⌝ }
+// The inverse S-box, in the same way.
+fn inverse_box_core(logs: &Logs, antilogs: &Antilogs, d: usize, tape: &[u8], x: &mut [u8]) -> usize
+    requires { ⌜ Power-fits d (now x) (now tape) × Tables (now logs) (now antilogs) ⌝ }
+    ensures { λ r. ⌜ (r ≡ Box.box-need d) × (now (x .exit) ≡ Box.inverse-box d (now (x .entry)) (now (tape .entry))) ⌝ }
 {
     affine_shares(Direction::Inverse, d, x);
-    power254::powers::power_core(logs, antilogs, d, x, tape, output)
+    power254::powers::power_core(logs, antilogs, d, tape, x)
 }
 
-// The S-box of the direction; the shares in x may be used up. Answers with how many bytes were drawn.
+// The S-box of the direction, in the same way.
 pub fn box_of(
     logs: &Logs,
     antilogs: &Antilogs,
     which: Direction,
     d: usize,
-    x: &mut [u8],
     tape: &[u8],
-    output: &mut [u8],
+    x: &mut [u8],
 ) -> usize
-    requires { ⌜ Power-fits d (now x) (now tape) (now output) × Tables (now logs) (now antilogs) ⌝ }
-    ensures { λ r. ⌜ (r ≡ Box.box-need d) × (now (output .exit) ≡ Box.box-of which d (now (x .entry)) (now (tape .entry))) ⌝ }
+    requires { ⌜ Power-fits d (now x) (now tape) × Tables (now logs) (now antilogs) ⌝ }
+    ensures { λ r. ⌜ (r ≡ Box.box-need d) × (now (x .exit) ≡ Box.box-of which d (now (x .entry)) (now (tape .entry))) ⌝ }
 {
     match which {
-        Direction::Forward => box_core(logs, antilogs, d, x, tape, output),
-        Direction::Inverse => inverse_box_core(logs, antilogs, d, x, tape, output),
+        Direction::Forward => box_core(logs, antilogs, d, tape, x),
+        Direction::Inverse => inverse_box_core(logs, antilogs, d, tape, x),
     }
 }
 
@@ -133,9 +118,10 @@ pub fn masked_box(order: usize, input: &[u8], tape: &[u8], output: &mut [u8]) ->
     let Answer::Taken(_) = answer else {
         return answer;
     };
+    shares::bytes::put(input, output);
     let logs = gf256::logs();
     let antilogs = gf256::antilogs();
     Answer::Taken(Count {
-        taken: box_core(&logs, &antilogs, order, input, tape, output),
+        taken: box_core(&logs, &antilogs, order, tape, output),
     })
 }

@@ -12,30 +12,6 @@ use gf256::Antilogs;
 use gf256::Direction;
 use gf256::Logs;
 
-// The S-box of byte k, with room for its shares before (x) and after (y).
-fn sub_with(
-    logs: &Logs,
-    antilogs: &Antilogs,
-    which: Direction,
-    d: usize,
-    l: usize,
-    k: usize,
-    tape: &[u8],
-    x: &mut [u8],
-    y: &mut [u8],
-    s: &mut [u8],
-) -> usize
-    requires { ⌜ Place-fits d l k (now tape) (now s) × (length (now x) ≡ suc d) × (length (now y) ≡ suc d)
-        × Tables (now logs) (now antilogs) ⌝ }
-    ensures { λ r. ⌜ (r ≡ box-need d)
-        × (now (s .exit) ≡ laid (sub-at which d k (parts (suc d) l (now (s .entry))) (now (tape .entry)))) ⌝ }
-{
-    crate::bytes::gather(d, l, k, s, x);
-    let drawn = sbox::boxes::box_of(logs, antilogs, which, d, x, tape, y);
-    crate::bytes::scatter(d, l, k, y, s);
-    drawn
-}
-
 // The S-box of byte k.
 fn sub_place(
     logs: &Logs,
@@ -51,21 +27,13 @@ fn sub_place(
     ensures { λ r. ⌜ (r ≡ box-need d)
         × (now (s .exit) ≡ laid (sub-at which d k (parts (suc d) l (now (s .entry))) (now (tape .entry)))) ⌝ }
 {
-    let mut x = [0u8; 9];
-    let mut y = [0u8; 9];
+    let mut room = [0u8; 9];
     let n = d + 1;
-    sub_with(
-        logs,
-        antilogs,
-        which,
-        d,
-        l,
-        k,
-        tape,
-        &mut x[0..n],
-        &mut y[0..n],
-        s,
-    )
+    let x = &mut room[0..n];
+    crate::bytes::gather(d, l, k, s, x);
+    let drawn = sbox::boxes::box_of(logs, antilogs, which, d, tape, x);
+    crate::bytes::scatter(d, l, k, x, s);
+    drawn
 }
 
 // The S-boxes of four bytes, a quarter of the string apart: the first, and the next each `stride` further. Their number is worked out, not

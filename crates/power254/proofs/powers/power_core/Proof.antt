@@ -1,73 +1,89 @@
 -- `power254::powers::power_core` meets its contract. Assumes nothing.
+use native.Mathlib.Omega.{arith}
 use borrow.Author.Needs.{needs}
+use Rattle.power254.specs.Power254.{power-need}
+use Rattle.power254.proofs.StageLaws.{power-after}
 use Rattle.power254.proofs.powers.power_core.Statement.{statement}
 use Rattle.power254.proofs.powers.power_core.Tie as tie
 
 add-n : tie.Need-add-n
 add-n c = search needs
 
-sub-power-with : tie.Need-sub-power-with
-sub-power-with c = search needs
+sub-z : tie.Need-sub-z
+sub-z c = search needs
 
-part-z-start : tie.Need-part-z-start
-part-z-start c = search needs
+part-squares-start : tie.Need-part-squares-start
+part-squares-start c = search needs
 
-part-z-end : tie.Need-part-z-end
-part-z-end c = search needs
+part-squares-end : tie.Need-part-squares-end
+part-squares-end c = search needs
 
-sub-power-with-2 : tie.Need-sub-power-with-2
-sub-power-with-2 c = search needs
+sub-y : tie.Need-sub-y
+sub-y c = search needs
 
-part-w-start : tie.Need-part-w-start
-part-w-start c = search needs
+part-cubes-start : tie.Need-part-cubes-start
+part-cubes-start c = search needs
 
-part-w-end : tie.Need-part-w-end
-part-w-end c = search needs
+part-cubes-end : tie.Need-part-cubes-end
+part-cubes-end c = search needs
 
-sub-power-with-3 : tie.Need-sub-power-with-3
-sub-power-with-3 c = search needs
+first-stage-requires : tie.Need-first-stage-requires
+unfolding power-need
+first-stage-requires c κs = (
+  record { order = search needs; input = search needs; power = search needs; output = search needs; drawn = search needs },
+  search needs,
+)
 
-part-y-start : tie.Need-part-y-start
-part-y-start c = search needs
+sub-later-stages : tie.Need-sub-later-stages
+unfolding power-need
+sub-later-stages c = search needs
 
-part-y-end : tie.Need-part-y-end
-part-y-end c = search needs
+part-later-stages-start : tie.Need-part-later-stages-start
+unfolding power-need
+part-later-stages-start c = search needs
 
-sub-power-with-4 : tie.Need-sub-power-with-4
-sub-power-with-4 c = search needs
+part-later-stages-end : tie.Need-part-later-stages-end
+part-later-stages-end c = search needs
 
-part-v-start : tie.Need-part-v-start
-part-v-start c = search needs
+later-stages-requires : tie.Need-later-stages-requires
+unfolding power-need
+later-stages-requires c κs = (
+  record { order = search needs; long-z = search needs; long-y = search needs; long-x = search needs; drawn = search needs },
+  search needs,
+)
 
-part-v-end : tie.Need-part-v-end
-part-v-end c = search needs
-
-power-with-requires : tie.Need-power-with-requires
-power-with-requires c κs = (search needs, search needs)
+add-result : tie.Need-add-result
+unfolding power-need
+add-result c = search needs
 
 same-length : tie.Need-same-length
 same-length c = search needs
 
 returns : tie.Need-returns
-returns c = search needs
+unfolding power-need
+returns c =
+    let later = c .before .before .before .before in
+    let first = later .before .before .before .before .before .before .before .before in
+    let p = first .first-stage .ensures in
+    let q = later .later-stages .ensures in
+    (omega (arith, p .0, q .0), power-after _ _ _ _ _ _ _ (p .0) (p .1) (p .2) (q .1))
 
 pub power-core-spec : {M : Type 1} → statement M
 power-core-spec =
     tie.close
     (tie.spec
     add-n
-    sub-power-with
-    part-z-start
-    part-z-end
-    sub-power-with-2
-    part-w-start
-    part-w-end
-    sub-power-with-3
-    part-y-start
-    part-y-end
-    sub-power-with-4
-    part-v-start
-    part-v-end
-    power-with-requires
+    sub-z
+    part-squares-start
+    part-squares-end
+    sub-y
+    part-cubes-start
+    part-cubes-end
+    first-stage-requires
+    sub-later-stages
+    part-later-stages-start
+    part-later-stages-end
+    later-stages-requires
+    add-result
     same-length
     returns)

@@ -22,28 +22,22 @@ inverse-box-core-requires c κs = search needs
 same-length : tie.Need-same-length
 same-length c = search needs
 
-same-length-2 : tie.Need-same-length-2
-same-length-2 c = search needs
-
 returns : tie.Need-returns
 returns c =
     let core = c .before .before in
-    let told = core .before .before .before in
-    let a = told .before .before .before .before .before .args in
+    let told = core .before .before in
+    let a = told .before .before .before .before .args in
     let q = core .box-core .ensures in
     (q .0, q .1 ∙ sym (ap (λ (w : Direction). box-of w (a .d) (now (a .x)) (now (a .tape))) (told .enum-told .given .1)))
 
-same-length-3 : tie.Need-same-length-3
-same-length-3 c = search needs
-
-same-length-4 : tie.Need-same-length-4
-same-length-4 c = search needs
+same-length-2 : tie.Need-same-length-2
+same-length-2 c = search needs
 
 returns-2 : tie.Need-returns-2
 returns-2 c =
-    let core = c .before .before .before .before in
-    let told = core .before .before .before in
-    let a = told .before .before .before .before .before .args in
+    let core = c .before .before in
+    let told = core .before .before in
+    let a = told .before .before .before .before .args in
     let q = core .inverse-box-core .ensures in
     (q .0, q .1 ∙ sym (ap (λ (w : Direction). box-of w (a .d) (now (a .x)) (now (a .tape))) (told .enum-told2 .given .1)))
 
@@ -56,8 +50,6 @@ box-of-spec =
     enum-told-2
     inverse-box-core-requires
     same-length
-    same-length-2
     returns
-    same-length-3
-    same-length-4
+    same-length-2
     returns-2)

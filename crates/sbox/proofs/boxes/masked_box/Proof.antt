@@ -1,5 +1,8 @@
 -- `sbox::boxes::masked_box` meets its contract. Assumes nothing.
-use mathlib.Core.Path.{ap}
+use mathlib.Core.Path.{ap, sym, _∙_}
+use mathlib.Core.List.{List}
+use Prim.Native.Nat.{ℕ}
+use native.Mathlib.Omega.{arith}
 use borrow.Author.Needs.{needs}
 use denote.Ref.{now}
 use lib.ListN.{length}
@@ -7,6 +10,8 @@ use Rattle.gf256.specs.Tables.{lent}
 use Rattle.shares.specs.Outcome.{took}
 use Rattle.shares.proofs.OutcomeLaws.{settled-refused, settled-done}
 use Rattle.shares.proofs.CallsLaws.{byte-answered, byte-through}
+use Rattle.shares.proofs.WriteLaws.{front-all}
+use Rattle.sbox.specs.Box.{box}
 use Rattle.sbox.specs.Calls.{Box-outcome}
 use Rattle.sbox.proofs.boxes.masked_box.Statement.{statement}
 use Rattle.sbox.proofs.boxes.masked_box.Tie as tie
@@ -33,6 +38,15 @@ returns c =
     in
     settled-refused _ _ _ _ _ e _ (c .enum-told2 .given .1)
 
+put-requires : tie.Need-put-requires
+put-requires c κs =
+    let told = c .before in
+    let q = told .before .before in
+    let v = q .before .before .before .before .before .args in
+    let h = byte-through (q .before .call-need .result) (v .order) (length (now (v .input))) (length (now (v .tape))) (length (now (v .output))) _
+    _ (q .byte-answer .ensures) (told .enum-told .given .1) in
+    omega (arith, h .input, h .output)
+
 logs-requires : tie.Need-logs-requires
 logs-requires c κs = search needs
 
@@ -43,14 +57,16 @@ box-core-requires : tie.Need-box-core-requires
 box-core-requires c κs =
     let antilogs = c .before .before .before in
     let logs = antilogs .before in
-    let told = logs .before in
+    let put = logs .before .before .before in
+    let told = put .before .before in
     let q = told .before .before in
     let v = q .before .before .before .before .before .args in
     let e = byte-answered _ _ (v .order) (length (now (v .input))) (length (now (v .tape))) (length (now (v .output))) _
     (q .before .call-need .ensures) (q .byte-answer .ensures)
     in
     let h = byte-through _ (v .order) _ _ _ _ _ e (told .enum-told .given .1) in
-    (record { order = h .order; input = h .input; output = h .output; drawn = h .drawn }, lent (logs .logs .ensures) (antilogs .antilogs .ensures))
+    let l = put .put .kept .1 .0 in
+    (record { order = h .order; long = omega (arith, h .output, l); drawn = h .drawn }, lent (logs .logs .ensures) (antilogs .antilogs .ensures))
 
 same-length : tie.Need-same-length
 same-length c = search needs
@@ -59,13 +75,18 @@ returns-2 : tie.Need-returns-2
 unfolding Box-outcome
 returns-2 c =
     let core = c .before .before in
-    let told = core .before .before .before .before .before .before in
+    let put = core .before .before .before .before .before .before .before .before in
+    let told = put .before .before in
     let q = told .before .before in
     let v = q .before .before .before .before .before .args in
     let e = byte-answered _ _ (v .order) (length (now (v .input))) (length (now (v .tape))) (length (now (v .output))) _
     (q .before .call-need .ensures) (q .byte-answer .ensures)
     in
-    settled-done _ _ _ _ _ e _ _ _ (told .enum-told .given .1) (ap took (core .box-core .ensures .0)) (core .box-core .ensures .1)
+    let h = byte-through (q .before .call-need .result) (v .order) (length (now (v .input))) (length (now (v .tape))) (length (now (v .output))) _
+    _ (q .byte-answer .ensures) (told .enum-told .given .1) in
+    let m = put .put .ensures ∙ front-all (now (v .input)) (now (v .output)) (h .input ∙ sym (h .output)) in
+    let p = core .box-core .ensures in
+    settled-done _ _ _ _ _ e _ _ _ (told .enum-told .given .1) (ap took (p .0)) (p .1 ∙ ap (λ (x : List ℕ). box (v .order) x (now (v .tape))) m)
 
 pub masked-box-spec : {M : Type 1} → statement M
 masked-box-spec =
@@ -76,6 +97,7 @@ masked-box-spec =
     enum-told
     enum-told-2
     returns
+    put-requires
     logs-requires
     antilogs-requires
     box-core-requires
