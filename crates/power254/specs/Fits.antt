@@ -24,20 +24,21 @@ pub record Stage-fits (d : ℕ) (x tape z y : List ℕ) : Type 0 where
   pub drawn : stage-need d ≤ length tape
 
 -- what the last stage asks
-pub record Last-fits (d : ℕ) (w z tape y v : List ℕ) : Type 0 where
+pub record Last-fits (d : ℕ) (v w z tape y out : List ℕ) : Type 0 where
   pub order : d ≤ 8
+  pub long-v : length v ≡ suc d
   pub long-w : length w ≡ suc d
   pub long-z : length z ≡ suc d
   pub long-y : length y ≡ suc d
-  pub long-v : length v ≡ suc d
+  pub output : length out ≡ suc d
   pub drawn : product-need d + product-need d ≤ length tape
 
 -- what the second and the last stage ask together
-pub record Later-fits (d : ℕ) (z tape y x : List ℕ) : Type 0 where
+pub record Later-fits (d : ℕ) (z tape y out : List ℕ) : Type 0 where
   pub order : d ≤ 8
   pub long-z : length z ≡ suc d
   pub long-y : length y ≡ suc d
-  pub long-x : length x ≡ suc d
+  pub output : length out ≡ suc d
   pub drawn : stage-need d + (product-need d + product-need d) ≤ length tape
 
 -- what power 254 asks

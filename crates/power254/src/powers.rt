@@ -24,16 +24,6 @@ fn raise(logs: &Logs, antilogs: &Antilogs, which: Exponent, x: &[u8], z: &mut [u
     }
 }
 
-// The same, over x.
-fn raise_in_place(logs: &Logs, antilogs: &Antilogs, which: Exponent, x: &mut [u8])
-    requires { ⌜ Tables (now logs) (now antilogs) ⌝ }
-    ensures { λ _. ⌜ now (x .exit) ≡ map (raised-to which) (now (x .entry)) ⌝ }
-{
-    for k in 0..x.len() {
-        x[k] = gf256::powers::raised(logs, antilogs, which, x[k]);
-    }
-}
-
 // z = x², refreshed. Answers with how many bytes were drawn.
 fn make_z(logs: &Logs, antilogs: &Antilogs, d: usize, x: &[u8], tape: &[u8], z: &mut [u8]) -> usize
     requires { ⌜ Refreshed-fits d (now x) (now tape) (now z) × Tables (now logs) (now antilogs) ⌝ }
@@ -88,27 +78,28 @@ fn second_stage(
     drawn + masking::product::product_core(logs, antilogs, d, y, w, &tape[drawn..], v)
 }
 
-// The last stage: v¹⁶, v¹⁶·w into y, and that times z back into v. Answers with how many bytes were drawn.
+// The last stage: v¹⁶ into y, v¹⁶·w back into v, and that times z. Answers with how many bytes were drawn.
 fn last_stage(
     logs: &Logs,
     antilogs: &Antilogs,
     d: usize,
+    v: &mut [u8],
     w: &[u8],
     z: &[u8],
     tape: &[u8],
     y: &mut [u8],
-    v: &mut [u8],
+    output: &mut [u8],
 ) -> usize
-    requires { ⌜ Last-fits d (now w) (now z) (now tape) (now y) (now v) × Tables (now logs) (now antilogs) ⌝ }
+    requires { ⌜ Last-fits d (now v) (now w) (now z) (now tape) (now y) (now output) × Tables (now logs) (now antilogs) ⌝ }
     ensures { λ r. ⌜ (r ≡ Place.product-need d + Place.product-need d)
-        × (now (v .exit) ≡ Power254.stage-last d (now (v .entry)) (now (w .entry)) (now (z .entry)) (now (tape .entry))) ⌝ }
+        × (now (output .exit) ≡ Power254.stage-last d (now (v .entry)) (now (w .entry)) (now (z .entry)) (now (tape .entry))) ⌝ }
 {
-    raise_in_place(logs, antilogs, Exponent::Sixteen, v);
-    let drawn = masking::product::product_core(logs, antilogs, d, v, w, tape, y);
-    drawn + masking::product::product_core(logs, antilogs, d, y, z, &tape[drawn..], v)
+    raise(logs, antilogs, Exponent::Sixteen, v, y);
+    let drawn = masking::product::product_core(logs, antilogs, d, y, w, tape, v);
+    drawn + masking::product::product_core(logs, antilogs, d, v, z, &tape[drawn..], output)
 }
 
-// The second and the last stage; x is what z was made of, and is overwritten. Answers with how many bytes were drawn.
+// The second and the last stage; y is used up. Answers with how many bytes were drawn.
 fn later_stages(
     logs: &Logs,
     antilogs: &Antilogs,
@@ -116,21 +107,24 @@ fn later_stages(
     z: &[u8],
     tape: &[u8],
     y: &mut [u8],
-    x: &mut [u8],
+    output: &mut [u8],
 ) -> usize
-    requires { ⌜ Later-fits d (now z) (now tape) (now y) (now x) × Tables (now logs) (now antilogs) ⌝ }
+    requires { ⌜ Later-fits d (now z) (now tape) (now y) (now output) × Tables (now logs) (now antilogs) ⌝ }
     ensures { λ r. ⌜ (r ≡ Power254.stage-need d + (Place.product-need d + Place.product-need d))
-        × (now (x .exit) ≡ Power254.stage-last d (Power254.stage-v d (now (y .entry)) (now (tape .entry)))
+        × (now (output .exit) ≡ Power254.stage-last d (Power254.stage-v d (now (y .entry)) (now (tape .entry)))
         (Power254.stage-w d (now (y .entry)) (now (tape .entry))) (now (z .entry)) (drop (Power254.stage-need d) (now (tape .entry)))) ⌝ }
 {
-    let mut room = [0u8; 9];
+    let mut fourths = [0u8; 9];
+    let mut products = [0u8; 9];
     let n = d + 1;
-    let w = &mut room[0..n];
-    let drawn = second_stage(logs, antilogs, d, y, tape, w, x);
-    drawn + last_stage(logs, antilogs, d, w, z, &tape[drawn..], y, x)
+    let w = &mut fourths[0..n];
+    let v = &mut products[0..n];
+    let drawn = second_stage(logs, antilogs, d, y, tape, w, v);
+    drawn + last_stage(logs, antilogs, d, v, w, z, &tape[drawn..], y, output)
 }
 
-// Power 254 of the shares of a byte, in place. Answers with how many bytes were drawn.
+// Power 254 of the shares of a byte, in place. Answers with how many bytes were drawn. The tape's slice is copied before anything is written: the
+// compiler then hands it over in registers.
 pub fn power_core(logs: &Logs, antilogs: &Antilogs, d: usize, tape: &[u8], x: &mut [u8]) -> usize
     requires { ⌜ Power-fits d (now x) (now tape) × Tables (now logs) (now antilogs) ⌝ }
     ensures { λ r. ⌜ (r ≡ Power254.power-need d) × (now (x .exit) ≡ Power254.power-254 d (now (x .entry)) (now (tape .entry))) ⌝ }
@@ -138,8 +132,9 @@ pub fn power_core(logs: &Logs, antilogs: &Antilogs, d: usize, tape: &[u8], x: &m
     let mut squares = [0u8; 9];
     let mut cubes = [0u8; 9];
     let n = d + 1;
+    let t = &tape[..];
     let z = &mut squares[0..n];
     let y = &mut cubes[0..n];
-    let drawn = first_stage(logs, antilogs, d, x, tape, z, y);
-    drawn + later_stages(logs, antilogs, d, z, &tape[drawn..], y, x)
+    let drawn = first_stage(logs, antilogs, d, x, t, z, y);
+    drawn + later_stages(logs, antilogs, d, z, &t[drawn..], y, x)
 }

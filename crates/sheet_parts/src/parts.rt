@@ -9,6 +9,7 @@ ghost use Rattle.isw.specs.Place as Place;
 ghost use Rattle.shares.specs.Writes.{front};
 ghost use Rattle.masking.specs.Steps as Steps;
 ghost use Rattle.masking.specs.Fits.{Row-fits, Rows-fit};
+ghost use Rattle.sheet_parts.specs.Fits.{Pairs-fit};
 ghost use Rattle.sheet_parts.specs.Parts.{bytes-of, five-rows, row-bytes, starts-put, row-put, table-rows};
 use crate::Pair;
 use gf256::Antilogs;
@@ -78,8 +79,49 @@ fn put_sums(i: usize, w: usize, own: &[u8], sums: &[u8], table: &mut [u8])
     }
 }
 
-// Row i of the pairs as the product takes it, over the front of out, and what it made of the running sums, into the table.
+// Row i of the pairs as the product takes it, over the front of out, and share i's own running sums, over the front of own.
 // Answers with how many bytes were drawn.
+fn pairs_row(
+    logs: &Logs,
+    antilogs: &Antilogs,
+    i: usize,
+    w: usize,
+    a: &[u8],
+    b: &[u8],
+    tape: &[u8],
+    own: &mut [u8],
+    sums: &mut [u8],
+    out: &mut [u8],
+) -> usize
+    requires { ⌜ Pairs-fit i w (now a) (now b) (now tape) (now own) (now sums) (now out) × Tables (now logs) (now antilogs) ⌝ }
+    ensures { λ k. ⌜ (k ≡ w) × (now (out .exit) ≡ front (row-bytes (now (a .entry)) (now (b .entry)) (now (tape .entry)) i w) (now (out .entry)))
+        × (now (own .exit) ≡ front (Steps.owns (now (tape .entry)) (now (sums .entry)) i w) (now (own .entry)))
+        × (now (sums .exit) ≡ Steps.pairs-taken (now (a .entry)) (now (b .entry)) (now (tape .entry)) i w (now (sums .entry))) ⌝ }
+{
+    let mut upper = [0u8; 8];
+    let mut half = [0u8; 8];
+    let mut lower = [0u8; 8];
+    let mut back = [0u8; 8];
+    let drawn = masking::steps::take_row(
+        logs,
+        antilogs,
+        i,
+        w,
+        a,
+        b,
+        tape,
+        &mut upper,
+        &mut half,
+        &mut lower,
+        &mut back,
+        own,
+        sums,
+    );
+    put_row(w, tape, &upper, &half, &lower, &back, out);
+    drawn
+}
+
+// Row i of the pairs, over the front of out, and what it made of the running sums, into the table. Answers with how many bytes were drawn.
 pub fn sheet_row(
     logs: &Logs,
     antilogs: &Antilogs,
@@ -101,27 +143,8 @@ pub fn sheet_row(
         ≡ row-put i (λ m. Place.running (at (now (sums .entry)) i) (at (now (tape .entry))) (m + 1))
         (at (now (sums .exit))) (now (table .entry)) w) ⌝ }
 {
-    let mut upper = [0u8; 8];
-    let mut half = [0u8; 8];
-    let mut lower = [0u8; 8];
-    let mut back = [0u8; 8];
     let mut own = [0u8; 8];
-    let drawn = masking::steps::take_row(
-        logs,
-        antilogs,
-        i,
-        w,
-        a,
-        b,
-        tape,
-        &mut upper,
-        &mut half,
-        &mut lower,
-        &mut back,
-        &mut own,
-        sums,
-    );
-    put_row(w, tape, &upper, &half, &lower, &back, out);
+    let drawn = pairs_row(logs, antilogs, i, w, a, b, tape, &mut own, sums, out);
     put_sums(i, w, &own, sums, table);
     drawn
 }

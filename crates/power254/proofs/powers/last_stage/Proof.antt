@@ -7,8 +7,8 @@ use Rattle.power254.proofs.StageLaws.{last-after}
 use Rattle.power254.proofs.powers.last_stage.Statement.{statement}
 use Rattle.power254.proofs.powers.last_stage.Tie as tie
 
-raise-in-place-requires : tie.Need-raise-in-place-requires
-raise-in-place-requires c κs = search needs
+raise-requires : tie.Need-raise-requires
+raise-requires c κs = search needs
 
 product-core-requires : tie.Need-product-core-requires
 product-core-requires c κs =
@@ -38,6 +38,9 @@ same-length c = search needs
 same-length-2 : tie.Need-same-length-2
 same-length-2 c = search needs
 
+same-length-3 : tie.Need-same-length-3
+same-length-3 c = search needs
+
 returns : tie.Need-returns
 returns c =
     let second = c .before .before in
@@ -45,13 +48,13 @@ returns c =
     let raised = first .before .before .before .before .before in
     let p = first .product-core .ensures in
     let q = second .product-core2 .ensures in
-    (ap₂ _+_ (p .0) (q .0), last-after _ _ _ _ _ _ _ _ _ (raised .raise-in-place .ensures) (p .1) (p .0) (q .1))
+    (ap₂ _+_ (p .0) (q .0), last-after _ _ _ _ _ _ _ _ _ (raised .raise .ensures) (p .1) (p .0) (q .1))
 
 pub last-stage-spec : {M : Type 1} → statement M
 last-stage-spec =
     tie.close
     (tie.spec
-    raise-in-place-requires
+    raise-requires
     product-core-requires
     sub-product-core
     part-product-core-start
@@ -60,4 +63,5 @@ last-stage-spec =
     add-result
     same-length
     same-length-2
+    same-length-3
     returns)

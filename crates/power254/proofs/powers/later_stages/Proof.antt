@@ -1,6 +1,7 @@
 -- `power254::powers::later_stages` meets its contract. Assumes nothing.
 use mathlib.Core.Path.{ap₂}
 use Prim.Native.Nat.{_+_}
+use native.Mathlib.Omega.{arith}
 use borrow.Author.Needs.{needs}
 use Rattle.power254.proofs.StageLaws.{later-after}
 use Rattle.power254.proofs.powers.later_stages.Statement.{statement}
@@ -12,11 +13,20 @@ add-n c = search needs
 sub-w : tie.Need-sub-w
 sub-w c = search needs
 
-part-room-start : tie.Need-part-room-start
-part-room-start c = search needs
+part-fourths-start : tie.Need-part-fourths-start
+part-fourths-start c = search needs
 
-part-room-end : tie.Need-part-room-end
-part-room-end c = search needs
+part-fourths-end : tie.Need-part-fourths-end
+part-fourths-end c = search needs
+
+sub-v : tie.Need-sub-v
+sub-v c = search needs
+
+part-products-start : tie.Need-part-products-start
+part-products-start c = search needs
+
+part-products-end : tie.Need-part-products-end
+part-products-end c = search needs
 
 second-stage-requires : tie.Need-second-stage-requires
 second-stage-requires c κs = (
@@ -37,17 +47,20 @@ last-stage-requires : tie.Need-last-stage-requires
 last-stage-requires c κs = (
   record {
     order = search needs;
+    long-v = search needs;
     long-w = search needs;
     long-z = search needs;
     long-y = search needs;
-    long-v = search needs;
+    output = search needs;
     drawn = search needs;
   },
   search needs,
 )
 
 add-result : tie.Need-add-result
-add-result c = search needs
+add-result c =
+    let second = c .before .before .before .before .before .before .before .before .before .before .before .before .before .before .before in
+    omega (arith, c, second)
 
 same-length : tie.Need-same-length
 same-length c = search needs
@@ -57,7 +70,7 @@ same-length-2 c = search needs
 
 returns : tie.Need-returns
 returns c =
-    let last = c .before .before .before .before .before in
+    let last = c .before .before .before .before .before .before in
     let second = last .before .before .before .before .before .before .before .before .before in
     let p = second .second-stage .ensures in
     let q = last .last-stage .ensures in
@@ -69,8 +82,11 @@ later-stages-spec =
     (tie.spec
     add-n
     sub-w
-    part-room-start
-    part-room-end
+    part-fourths-start
+    part-fourths-end
+    sub-v
+    part-products-start
+    part-products-end
     second-stage-requires
     sub-last-stage
     part-last-stage-start

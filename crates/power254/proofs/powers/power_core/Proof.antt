@@ -48,7 +48,7 @@ part-later-stages-end c = search needs
 later-stages-requires : tie.Need-later-stages-requires
 unfolding power-need
 later-stages-requires c κs = (
-  record { order = search needs; long-z = search needs; long-y = search needs; long-x = search needs; drawn = search needs },
+  record { order = search needs; long-z = search needs; long-y = search needs; output = search needs; drawn = search needs },
   search needs,
 )
 
