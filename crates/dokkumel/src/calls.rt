@@ -1,9 +1,9 @@
 // Commands that call a routine: ORDER, one or two inputs, and a tape are read in turn, and the first that cannot be read ends the run.
-use crate::arguments;
-use crate::commands::Command;
 use crate::reading;
-use crate::routines;
 use crate::sheet;
+use command_calls::routines;
+use command_line::arguments;
+use command_line::commands::Command;
 
 fn run_on(c: Command, order: usize, first: &[u8], second: &[u8], tape: &[u8]) {
     match c {

@@ -1,5 +1,5 @@
 // The command `tape`: which bytes of the tape go into which step of an encryption or decryption.
-use crate::arguments;
+use command_line::arguments;
 use shares::Refusal;
 use text::answers;
 

@@ -3,19 +3,17 @@
 //
 // A refused call prints `refused N: CAUSE` on standard output. A command line that cannot be read gets one line on standard error. The exit
 // status is 0 in every case, since a program in Rattle has no other.
-mod arguments;
 mod calls;
-mod commands;
-mod faults;
 mod help;
 mod layout;
 mod places;
-mod previews;
 mod reading;
-mod routines;
 mod sheet;
 
-use crate::commands::Command;
+use command_calls::previews;
+use command_line::commands;
+use command_line::commands::Command;
+use command_line::faults;
 
 fn run(c: Command) {
     match c {

@@ -1,5 +1,5 @@
 // The command `places`: the places of a product by number and name.
-use crate::arguments;
+use command_line::arguments;
 use shares::Refusal;
 use text::answers;
 

@@ -1,8 +1,8 @@
 // The command `read`: the bytes at the places that the arguments behind the tape name.
 ghost use mathlib.Core.Path.{_≡_};
 ghost use lib.ListN.{length};
-use crate::arguments;
-use crate::faults;
+use command_line::arguments;
+use command_line::faults;
 use text::answers;
 
 // Room for more places than the library serves at any order.

@@ -1,15 +1,15 @@
 // A line is run, and what came is compared with what it wants.
-use crate::answers;
-use crate::answers::Came;
 use crate::counts;
 use crate::counts::Tally;
-use crate::forms;
-use crate::forms::Kind;
-use crate::lines;
-use crate::runs;
-use crate::tapes;
-use crate::values;
 use text::hexadecimal;
+use vector_lines::answers;
+use vector_lines::answers::Came;
+use vector_lines::forms;
+use vector_lines::forms::Kind;
+use vector_lines::lines;
+use vector_routes::values;
+use vector_runs::runs;
+use vector_runs::tapes;
 
 // An output; of round keys the last one.
 fn print_output(output: &[u8]) {

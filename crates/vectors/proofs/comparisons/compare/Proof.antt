@@ -1,5 +1,5 @@
 -- `vectors::comparisons::compare` meets its contract. Assumes nothing.
-use Rattle.vectors.proofs.Parts.{lengths}
+use Rattle.vector_routes.proofs.Parts.{lengths}
 use native.Mathlib.Omega.{arith}
 use borrow.Author.Needs.{needs}
 use Rattle.vectors.proofs.comparisons.compare.Statement.{statement}
