@@ -10,14 +10,14 @@ use lib.ListN.{length, drop, length-drop}
 use borrow.Author.Tests.{eq-eqb, ltb-true, ltb-false, lt-ltb, le-ltb}
 use Rattle.gf256.specs.declared.Direction.{Direction}
 use Rattle.gf256.specs.declared.Direction.the-variants.{Forward, Inverse}
-use Rattle.shares.specs.declared.Refusal.the-variants.{Order, Key, Input, Output, Tape}
-use Rattle.shares.specs.declared.Count.{Count}
-use Rattle.shares.specs.declared.Answer.the-variants.{Taken, Refused}
-use Rattle.shares.specs.Outcome.{done, took, answered, ended, settled, served, reaches, share-length}
+use Rattle.outcomes.specs.declared.Refusal.the-variants.{Order, Key, Input, Output, Tape}
+use Rattle.outcomes.specs.declared.Count.{Count}
+use Rattle.outcomes.specs.declared.Answer.the-variants.{Taken, Refused}
+use Rattle.outcomes.specs.Outcome.{done, took, answered, ended, settled, served, reaches, share-length}
 use Rattle.shares.specs.Strings.{joined-string, parts}
 use Rattle.shares.specs.Calls.{Join-outcome, unused}
-use Rattle.shares.proofs.OutcomeLaws.{all, _and_, settled-taken, settled-passed, le-reaches}
-use Rattle.shares.proofs.LengthsLaws.{share-length-16}
+use Rattle.outcomes.proofs.OutcomeLaws.{all, _and_, settled-taken, settled-passed, le-reaches}
+use Rattle.outcomes.proofs.LengthsLaws.{share-length-16}
 use Rattle.shares.proofs.StringsLaws.{shares-of, laid-length}
 use Rattle.cipher.specs.Fips197.{rounds, key-expansion, cipher-with, cipher, inv-cipher}
 use Rattle.cipher.specs.Cipher.{schedule-need, prepared-laid, encrypted-with-need, encrypted-with-laid, cipher-need, encrypted-laid, decrypted-laid}

@@ -4,7 +4,7 @@ use mathlib.Core.List.{List}
 use Prim.Native.Nat.{ℕ, suc, _*_, _-_, _≤_}
 use native.Mathlib.Omega.{arith}
 use lib.ListN.{length, take, drop}
-use Rattle.shares.specs.Outcome.{took, settled}
+use Rattle.outcomes.specs.Outcome.{took, settled}
 use Rattle.gf256.specs.declared.Direction.{Direction}
 use Rattle.gf256.specs.declared.Direction.the-variants.{Forward, Inverse}
 use Rattle.shares.specs.Strings.{Shares, parts, laid}

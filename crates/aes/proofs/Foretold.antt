@@ -7,12 +7,12 @@ use Prim.Native.Nat.{ℕ, suc, _*_}
 use lib.Dec.{ltb, eqb}
 use lib.ListN.{length}
 use borrow.Author.Tests.{lt-ltb, eq-eqb}
-use Rattle.shares.specs.declared.Refusal.the-variants.{Tape}
-use Rattle.shares.specs.declared.Count.{Count}
-use Rattle.shares.specs.declared.Answer.{Answer}
-use Rattle.shares.specs.declared.Answer.the-variants.{Taken, Refused}
-use Rattle.shares.specs.Outcome.{Outcome, done, refused, outcome, Test, test, took, answered, ended, settled, served, reaches}
-use Rattle.shares.proofs.OutcomeLaws.{outcome-answer, settled-same, settled-past}
+use Rattle.outcomes.specs.declared.Refusal.the-variants.{Tape}
+use Rattle.outcomes.specs.declared.Count.{Count}
+use Rattle.outcomes.specs.declared.Answer.{Answer}
+use Rattle.outcomes.specs.declared.Answer.the-variants.{Taken, Refused}
+use Rattle.outcomes.specs.Outcome.{Outcome, done, refused, outcome, Test, test, took, answered, ended, settled, served, reaches}
+use Rattle.outcomes.proofs.OutcomeLaws.{outcome-answer, settled-same, settled-past}
 use Rattle.cipher.specs.Cipher.{schedule-need, encrypted-with-need, cipher-need}
 use Rattle.lengths.specs.Lengths.{Key-size, prepared-length}
 use Rattle.lengths.specs.Previews.{Encrypt-preview, Decrypt-preview, Prepare-preview, Encrypt-prepared-preview}

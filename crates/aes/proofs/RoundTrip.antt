@@ -8,12 +8,12 @@ use borrow.Author.Tests.{eq-eqb, lt-ltb}
 use lib.ListN.{length}
 use Rattle.xor.specs.Lists.{Below}
 use Rattle.gf256.specs.declared.Direction.the-variants.{Forward}
-use Rattle.shares.specs.declared.Count.{Count}
-use Rattle.shares.specs.Outcome.{done, took, share-length}
+use Rattle.outcomes.specs.declared.Count.{Count}
+use Rattle.outcomes.specs.Outcome.{done, took, share-length}
 use Rattle.shares.specs.Strings.{joined-string, parts, split-need}
 use Rattle.shares.specs.Calls.{Split-outcome, Join-outcome}
-use Rattle.shares.proofs.OutcomeLaws.{all, _and_, settled-taken, settled-passed, le-reaches}
-use Rattle.shares.proofs.LengthsLaws.{share-length-16}
+use Rattle.outcomes.proofs.OutcomeLaws.{all, _and_, settled-taken, settled-passed, le-reaches}
+use Rattle.outcomes.proofs.LengthsLaws.{share-length-16}
 use Rattle.shares.proofs.CallsLaws.{split-passed}
 use Rattle.shares.proofs.StringsLaws.{shares-of, length-joined}
 use Rattle.shares.proofs.RoundTrip.{split-laid-joins}

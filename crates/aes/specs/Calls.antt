@@ -4,8 +4,8 @@ use mathlib.Core.Path.{_≡_}
 use mathlib.Core.List.{List, []}
 use Prim.Native.Nat.{ℕ, _+_}
 use lib.ListN.{length}
-use Rattle.shares.specs.declared.Answer.{Answer}
-use Rattle.shares.specs.Outcome.{Outcome, done, refused, outcome, took, settled}
+use Rattle.outcomes.specs.declared.Answer.{Answer}
+use Rattle.outcomes.specs.Outcome.{Outcome, done, refused, outcome, took, settled}
 use Rattle.cipher.specs.Cipher.{schedule-need, prepared-laid, encrypted-with-need, encrypted-with-laid, cipher-need, encrypted-laid, decrypted-laid}
 use Rattle.lengths.specs.Lengths.{key-words, prepared-words}
 use Rattle.lengths.specs.Previews.{Single-tests, Preparation-tests, Prepared-tests}

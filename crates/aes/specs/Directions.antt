@@ -4,7 +4,7 @@ use mathlib.Core.List.{List}
 use Prim.Native.Nat.{ℕ}
 use Rattle.gf256.specs.declared.Direction.{Direction}
 use Rattle.gf256.specs.declared.Direction.the-variants.{Forward, Inverse}
-use Rattle.shares.specs.Outcome.{Outcome}
+use Rattle.outcomes.specs.Outcome.{Outcome}
 use Rattle.cipher.specs.Fips197.{cipher, inv-cipher}
 use Rattle.cipher.specs.Cipher.{encrypted-laid, decrypted-laid}
 use Rattle.aes.specs.Calls.{Encrypt-outcome, Decrypt-outcome}

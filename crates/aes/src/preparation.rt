@@ -1,11 +1,11 @@
 // Round keys in shares, prepared once, and encryption from them. Document 02, wish 1, decides.
 ghost use mathlib.Core.Path.{_≡_};
-ghost use Rattle.shares.specs.Outcome.{outcome};
+ghost use Rattle.outcomes.specs.Outcome.{outcome};
 ghost use Rattle.aes.specs.Calls.{Prepare-outcome, Encrypt-prepared-outcome};
 use gf256::Direction;
 use lengths::sizes;
-use shares::Answer;
-use shares::Count;
+use outcomes::Answer;
+use outcomes::Count;
 
 // The masked key expansion, once: round keys 0 to Nr of share 0, then those of share 1, and so on.
 pub fn prepare(order: usize, key: &[u8], tape: &[u8], output: &mut [u8]) -> Answer

@@ -3,7 +3,7 @@ ghost use mathlib.Core.Path.{_≡_};
 ghost use Prim.Native.Nat.{suc, _*_};
 ghost use lib.ListN.{length};
 ghost use Rattle.gf256.specs.Tables.{Tables};
-ghost use Rattle.shares.specs.Outcome.{outcome};
+ghost use Rattle.outcomes.specs.Outcome.{outcome};
 ghost use Rattle.cipher.specs.Fips197.{rounds};
 ghost use Rattle.cipher.specs.Cipher as Cipher;
 ghost use Rattle.aes.specs.Calls.{Encrypt-outcome, Decrypt-outcome};
@@ -13,8 +13,8 @@ use gf256::Antilogs;
 use gf256::Direction;
 use gf256::Logs;
 use lengths::sizes;
-use shares::Answer;
-use shares::Count;
+use outcomes::Answer;
+use outcomes::Count;
 
 // The key expansion draws first, then the rounds.
 fn block_with(

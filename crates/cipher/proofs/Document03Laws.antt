@@ -18,7 +18,7 @@ use Rattle.xor.proofs.RunsLaws.{tab-from}
 use Rattle.xor.proofs.Tests.{true-T, or-cases}
 use Rattle.gf256.specs.declared.Direction.the-variants.{Forward}
 use Rattle.gf256.specs.Field.{times, squared, fourth, sixteenth, affine, constant}
-use Rattle.gf256.proofs.AffineLaws.{affine-lt}
+use Rattle.byte_maps.proofs.AffineLaws.{affine-lt}
 use Rattle.isw.specs.Place.{product-need}
 use Rattle.isw.specs.Document03.{product, product-tape}
 use Rattle.isw.proofs.SheetLaws.{length-product}

@@ -2,7 +2,7 @@
 -- Documents 01 and 02 decide the routines.
 use mathlib.Core.List.{List}
 use Prim.Native.Nat.{ℕ}
-use Rattle.shares.specs.Outcome.{Outcome, refused}
+use Rattle.outcomes.specs.Outcome.{Outcome, refused}
 use Rattle.shares.specs.Calls.{Split-outcome, Join-outcome, Refresh-outcome}
 use Rattle.masking.specs.Calls.{Product-outcome}
 use Rattle.sbox.specs.Calls.{Box-outcome}

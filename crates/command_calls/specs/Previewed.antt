@@ -1,7 +1,7 @@
 -- What the command `preview` asks: the library's preview on the lengths of the arguments. Document 02, wish 4, decides the previews.
 -- Assumes nothing: these are definitions.
 use Prim.Native.Nat.{ℕ}
-use Rattle.shares.specs.Outcome.{Outcome}
+use Rattle.outcomes.specs.Outcome.{Outcome}
 use Rattle.lengths.specs.Previews.{Encrypt-preview, Decrypt-preview, Prepare-preview, Encrypt-prepared-preview}
 use Rattle.command_calls.specs.declared.previews.Route.{Route}
 use Rattle.command_calls.specs.declared.previews.Route.the-variants.{Encrypt, Decrypt, Prepare, EncryptPrepared}

@@ -2,13 +2,13 @@
 // cannot be read ends the run.
 ghost use mathlib.Core.Path.{_≡_};
 ghost use mathlib.Core.List.{[]};
-ghost use Rattle.shares.specs.Outcome.{outcome};
+ghost use Rattle.outcomes.specs.Outcome.{outcome};
 ghost use Rattle.command_calls.specs.Previewed.{previewed};
 use command_line::arguments;
 use command_line::commands;
 use command_line::commands::Command;
 use command_line::faults;
-use shares::Answer;
+use outcomes::Answer;
 use text::answers;
 
 // The calls that can be asked about.

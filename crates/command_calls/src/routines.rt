@@ -1,11 +1,11 @@
 // The routines of the library, each under its command.
 ghost use mathlib.Core.Path.{_≡_};
 ghost use Prim.Native.Nat.{_≤_};
-ghost use Rattle.shares.specs.Outcome.{outcome};
+ghost use Rattle.outcomes.specs.Outcome.{outcome};
 ghost use Rattle.command_calls.specs.Called.{called};
 use command_line::commands::Command;
-use shares::Answer;
-use shares::Refusal;
+use outcomes::Answer;
+use outcomes::Refusal;
 use text::answers;
 
 // How long a string of that size is in n shares; 0 above 32 bytes, where no routine takes it.
@@ -35,7 +35,7 @@ fn room(c: Command, order: usize, length: usize) -> usize
             order,
         ),
         Command::Split => in_shares(n, length),
-        Command::Join => shares::answers::share_length(n, length),
+        Command::Join => outcomes::asked::share_length(n, length),
         _ => n,
     }
 }

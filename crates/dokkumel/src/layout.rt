@@ -1,10 +1,10 @@
 // The command `tape`: which bytes of the tape go into which step of an encryption or decryption.
 use command_line::arguments;
-use shares::Refusal;
+use outcomes::Refusal;
 use text::answers;
 
 fn run_on(order: usize, size: usize) {
-    if !shares::answers::served(order) {
+    if !outcomes::asked::served(order) {
         return answers::print_refused(Refusal::Order);
     }
     match size {

@@ -1,6 +1,6 @@
 // The command `places`: the places of a product by number and name.
 use command_line::arguments;
-use shares::Refusal;
+use outcomes::Refusal;
 use text::answers;
 
 pub fn run() {
@@ -8,7 +8,7 @@ pub fn run() {
     if !order.good {
         return;
     }
-    if !shares::answers::served(order.value) {
+    if !outcomes::asked::served(order.value) {
         answers::print_refused(Refusal::Order);
         return;
     }

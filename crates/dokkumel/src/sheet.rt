@@ -1,5 +1,5 @@
 // The command `sheet`: all places of a product with their bytes.
-use shares::Answer;
+use outcomes::Answer;
 use text::answers;
 
 // The sheet goes into a buffer of that size.

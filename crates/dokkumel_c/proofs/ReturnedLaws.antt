@@ -7,10 +7,10 @@ use native.Mathlib.Omega.{arith}
 use lib.Dec.{ltb}
 use lib.ListN.{length, drop, length-drop, drop-of-length-le}
 use borrow.Author.Tests.{ltb-true, ltb-false}
-use Rattle.shares.specs.declared.Count.{Count}
-use Rattle.shares.specs.declared.Answer.{Answer}
-use Rattle.shares.specs.declared.Answer.the-variants.{Taken, Refused}
-use Rattle.shares.specs.Outcome.{Outcome, Test, answered, ended, settled}
+use Rattle.outcomes.specs.declared.Count.{Count}
+use Rattle.outcomes.specs.declared.Answer.{Answer}
+use Rattle.outcomes.specs.declared.Answer.the-variants.{Taken, Refused}
+use Rattle.outcomes.specs.Outcome.{Outcome, Test, answered, ended, settled}
 use Rattle.shares.specs.Calls.{unused}
 use Rattle.dokkumel_c.specs.Returned.{Returned, gives, returned, unused-start}
 

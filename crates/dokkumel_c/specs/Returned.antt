@@ -5,7 +5,7 @@ use mathlib.Core.List.{List}
 use Prim.Native.Nat.{ℕ}
 use lib.Dec.{ltb}
 use lib.ListN.{length}
-use Rattle.shares.specs.Outcome.{Outcome, done, refused}
+use Rattle.outcomes.specs.Outcome.{Outcome, done, refused}
 
 -- what C can see of a call
 pub record Returned : Type 0 where

@@ -2,9 +2,9 @@
 ghost use mathlib.Core.Path.{_≡_};
 ghost use Prim.Native.Nat.{ℕ};
 ghost use mathlib.Core.List.{List};
-ghost use Rattle.shares.specs.Outcome as Outcome;
+ghost use Rattle.outcomes.specs.Outcome as Outcome;
 ghost use Rattle.dokkumel_c.specs.Returned as Returned;
-use shares::Answer;
+use outcomes::Answer;
 
 // 0 and the count where the call was carried through; else the refusal's number, and taken stays.
 pub fn returned(answer: Answer, taken: &mut usize) -> u32
@@ -16,6 +16,6 @@ pub fn returned(answer: Answer, taken: &mut usize) -> u32
             *taken = k.taken;
             0
         }
-        Answer::Refused(r) => shares::answers::number(r),
+        Answer::Refused(r) => outcomes::asked::number(r),
     }
 }

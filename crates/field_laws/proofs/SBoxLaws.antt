@@ -6,7 +6,7 @@ use Rattle.gf256.specs.Directions.{s-box-of}
 use Rattle.gf256.specs.declared.Direction.{Direction}
 use Rattle.gf256.specs.declared.Direction.the-variants.{Forward, Inverse}
 use Rattle.field_laws.proofs.InverseLaws.{inverse-lt, inverse-inverse}
-use Rattle.gf256.proofs.AffineLaws.{affine-lt, affine-of-lt, inverse-affine-affine, affine-inverse-affine}
+use Rattle.byte_maps.proofs.AffineLaws.{affine-lt, affine-of-lt, inverse-affine-affine, affine-inverse-affine}
 
 pub inverse-s-box-s-box : (x : ℕ) → x < 256 → inverse-s-box (s-box x) ≡ x
 unfolding inverse-s-box s-box

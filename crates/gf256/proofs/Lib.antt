@@ -5,5 +5,3 @@ pub mod FromTopLaws
 pub mod ExponentLaws
 pub mod TablesLaws
 pub mod PowersLaws
-pub mod AffineLaws
-pub mod ColumnLaws

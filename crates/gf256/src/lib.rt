@@ -1,18 +1,13 @@
-// Bytes as elements of AES's field: products, powers, the affine maps of the S-boxes, one column of MixColumns and of InvMixColumns.
-// Document 01, "Bytes as field elements", and document 02, wishes 2, 3 and 5, decide; specs/Field.antt has the definitions that the contracts name.
+// Bytes as elements of AES's field: products and powers. Document 01, "Bytes as field elements", and document 02, wishes 2, 3 and 5, decide;
+// specs/Field.antt has the definitions that the contracts name.
 //
 // What stands at the root asks nothing of a caller. The products and powers by logs ask for the two tables and stand in modules of their own: their
 // callers, the cores of the crates above, are lent the tables.
-mod affine_map;
-mod columns;
 pub mod powers;
 mod product;
 pub mod table_product;
 mod tables;
 
-pub use affine_map::affine;
-pub use affine_map::constant;
-pub use columns::mixed_of;
 pub use product::double;
 pub use product::times;
 pub use tables::Antilogs;

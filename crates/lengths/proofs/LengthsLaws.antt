@@ -5,9 +5,9 @@ use Prim.Native.Nat.{ℕ, zero, suc, _+_, _*_, _-_, _/_, _≤_, _<_}
 use native.Mathlib.Nat.{mul-le-mul}
 use native.Mathlib.Numerals.{add-one}
 use native.Mathlib.Omega.{arith}
-use Rattle.shares.specs.Outcome.{one-of, share-length}
-use Rattle.shares.proofs.LengthsLaws.{one-of-here, one-of-next, one-of-is, one-of-each, one-of-le, none, also, share-length-16, share-length-24}
-use Rattle.shares.proofs.LengthsLaws.{share-length-32, share-length-cases, share-length-is}
+use Rattle.outcomes.specs.Outcome.{one-of, share-length}
+use Rattle.outcomes.proofs.LengthsLaws.{one-of-here, one-of-next, one-of-is, one-of-each, one-of-le, none, also, share-length-16, share-length-24}
+use Rattle.outcomes.proofs.LengthsLaws.{share-length-32, share-length-cases, share-length-is}
 use Rattle.sbox.specs.Box.{box-need}
 use Rattle.sbox.proofs.BoxLaws.{box-need-bound}
 use Rattle.cipher.specs.Fips197.{rounds}

@@ -6,12 +6,12 @@ use Prim.Native.Nat.{ℕ, zero, suc, _*_, _≤_, _<_}
 use native.Mathlib.Omega.{arith}
 use borrow.Author.Tests.{eqb-true, ltb-true, lt-ltb, le-ltb}
 use lib.Dec.{ltb}
-use Rattle.shares.specs.declared.Refusal.the-variants.{Key}
-use Rattle.shares.specs.declared.Count.{Count}
-use Rattle.shares.specs.declared.Answer.{Answer}
-use Rattle.shares.specs.declared.Answer.the-variants.{Taken, Refused}
-use Rattle.shares.specs.Outcome.{Test, answered, took, served, reaches}
-use Rattle.shares.proofs.OutcomeLaws.{Passed, _and_, answered-here, answered-next, answered-taken, served-bounds, reaches-le}
+use Rattle.outcomes.specs.declared.Refusal.the-variants.{Key}
+use Rattle.outcomes.specs.declared.Count.{Count}
+use Rattle.outcomes.specs.declared.Answer.{Answer}
+use Rattle.outcomes.specs.declared.Answer.the-variants.{Taken, Refused}
+use Rattle.outcomes.specs.Outcome.{Test, answered, took, served, reaches}
+use Rattle.outcomes.proofs.OutcomeLaws.{Passed, _and_, answered-here, answered-next, answered-taken, served-bounds, reaches-le}
 use Rattle.cipher.specs.Cipher.{schedule-need}
 use Rattle.lengths.specs.Lengths.{key-words, prepared-length}
 use Rattle.lengths.specs.Previews.{Keyed, Block-tests, Preparation-tests}

@@ -4,7 +4,7 @@ use mathlib.Core.Bool.{cond}
 use mathlib.Core.List.{List, [], _∷_}
 use Prim.Native.Nat.{ℕ, suc, _*_, _/_, _-_}
 use lib.Dec.{eqb}
-use Rattle.shares.specs.Outcome.{one-of, share-length}
+use Rattle.outcomes.specs.Outcome.{one-of, share-length}
 use Rattle.cipher.specs.Fips197.{rounds}
 
 -- how many words the key has, by the length of its n shares: 4, 6 or 8, and 0 where the length is no key's

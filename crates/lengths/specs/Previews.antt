@@ -3,8 +3,8 @@
 use mathlib.Core.List.{List, [], _∷_}
 use Prim.Native.Nat.{ℕ, suc, _*_}
 use lib.Dec.{ltb, eqb}
-use Rattle.shares.specs.declared.Refusal.the-variants.{Order, Key, Input, Output, Tape}
-use Rattle.shares.specs.Outcome.{Outcome, Test, test, took, settled, served, reaches}
+use Rattle.outcomes.specs.declared.Refusal.the-variants.{Order, Key, Input, Output, Tape}
+use Rattle.outcomes.specs.Outcome.{Outcome, Test, test, took, settled, served, reaches}
 use Rattle.cipher.specs.Cipher.{schedule-need, encrypted-with-need, cipher-need}
 use Rattle.lengths.specs.Lengths.{key-words, prepared-length, prepared-words}
 

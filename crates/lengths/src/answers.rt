@@ -3,15 +3,15 @@
 // Lengths are any numbers: they are compared, and nothing is computed with them.
 ghost use mathlib.Core.Path.{_≡_};
 ghost use Prim.Native.Nat.{_≤_};
-ghost use Rattle.shares.specs.Outcome.{answered, took};
+ghost use Rattle.outcomes.specs.Outcome.{answered, took};
 ghost use Rattle.cipher.specs.Cipher.{schedule-need, encrypted-with-need, cipher-need};
 ghost use Rattle.lengths.specs.Lengths.{key-words, prepared-words};
 ghost use Rattle.lengths.specs.Previews.{Block-tests, Single-tests, Preparation-tests, Prepared-tests};
 use crate::needs;
 use crate::sizes;
-use shares::Answer;
-use shares::Count;
-use shares::Refusal;
+use outcomes::Answer;
+use outcomes::Count;
+use outcomes::Refusal;
 
 // The tests of a block that draws so many bytes, behind those of the order and the key.
 fn block_answer(need: usize, d: usize, input: usize, tape: usize, output: usize) -> Answer
@@ -35,7 +35,7 @@ fn block_answer(need: usize, d: usize, input: usize, tape: usize, output: usize)
 pub fn single_answer(order: usize, key: usize, input: usize, tape: usize, output: usize) -> Answer
     ensures { λ r. ⌜ r ≡ answered (Single-tests order key input tape output) (took (cipher-need (key-words order key) order)) ⌝ }
 {
-    if !shares::answers::served(order) {
+    if !outcomes::asked::served(order) {
         return Answer::Refused(Refusal::Order);
     }
     let nk = sizes::key_words(order, key);
@@ -56,7 +56,7 @@ pub fn prepared_answer(
     ensures { λ r. ⌜ r
         ≡ answered (Prepared-tests order prepared input tape output) (took (encrypted-with-need (prepared-words order prepared) order)) ⌝ }
 {
-    if !shares::answers::served(order) {
+    if !outcomes::asked::served(order) {
         return Answer::Refused(Refusal::Order);
     }
     let nk = sizes::prepared_words(order, prepared);
@@ -76,7 +76,7 @@ pub fn prepared_answer(
 pub fn preparation_answer(order: usize, key: usize, tape: usize, output: usize) -> Answer
     ensures { λ r. ⌜ r ≡ answered (Preparation-tests order key tape output) (took (schedule-need (key-words order key) order)) ⌝ }
 {
-    if !shares::answers::served(order) {
+    if !outcomes::asked::served(order) {
         return Answer::Refused(Refusal::Order);
     }
     let nk = sizes::key_words(order, key);

@@ -2,10 +2,10 @@
 // Any lengths may be asked about, up to the largest number there is.
 ghost use mathlib.Core.Path.{_≡_};
 ghost use mathlib.Core.List.{[]};
-ghost use Rattle.shares.specs.Outcome.{outcome};
+ghost use Rattle.outcomes.specs.Outcome.{outcome};
 ghost use Rattle.lengths.specs.Previews.{Encrypt-preview, Decrypt-preview, Prepare-preview, Encrypt-prepared-preview};
 use crate::answers;
-use shares::Answer;
+use outcomes::Answer;
 
 pub fn preview_encrypt(
     order: usize,

@@ -8,7 +8,7 @@ pub fn key_words(d: usize, length: usize) -> usize
     requires { ⌜ d ≤ 8 ⌝ }
     ensures { λ r. ⌜ (r ≡ key-words d length) × (r ≤ 8) ⌝ }
 {
-    shares::answers::share_length(d + 1, length) / 4
+    outcomes::asked::share_length(d + 1, length) / 4
 }
 
 // The length of prepared keys: d + 1 shares of nk + 7 round keys.
@@ -24,7 +24,7 @@ pub fn prepared_words(d: usize, length: usize) -> usize
     requires { ⌜ d ≤ 8 ⌝ }
     ensures { λ r. ⌜ (r ≡ prepared-words d length) × (r ≤ 8) ⌝ }
 {
-    let l = shares::answers::one_of(&[176, 208, 240], d + 1, length);
+    let l = outcomes::asked::one_of(&[176, 208, 240], d + 1, length);
     if l == 0 {
         return 0;
     }

@@ -43,7 +43,7 @@ fn mix_columns(which: Direction, t: &[u8], s: &mut [u8])
     for k in 0..16 {
         let r = k % 4;
         let c = 4 * (k / 4);
-        s[k] = gf256::mixed_of(
+        s[k] = byte_maps::mixed_of(
             which,
             t[c + r],
             t[c + (r + 1) % 4],

@@ -6,12 +6,12 @@ use borrow.Author.Tests.{eqb-true}
 use lib.Dec.{eqb}
 use Rattle.xor.proofs.Tests.{and-true}
 use Rattle.isw.specs.Place.{product-need}
-use Rattle.shares.specs.declared.Refusal.the-variants.{Order}
-use Rattle.shares.specs.declared.Count.{Count}
-use Rattle.shares.specs.declared.Answer.{Answer}
-use Rattle.shares.specs.declared.Answer.the-variants.{Taken}
-use Rattle.shares.specs.Outcome.{test, answered, served, reaches}
-use Rattle.shares.proofs.OutcomeLaws.{Passed, _and_, answered-here, answered-taken, served-bounds, reaches-le}
+use Rattle.outcomes.specs.declared.Refusal.the-variants.{Order}
+use Rattle.outcomes.specs.declared.Count.{Count}
+use Rattle.outcomes.specs.declared.Answer.{Answer}
+use Rattle.outcomes.specs.declared.Answer.the-variants.{Taken}
+use Rattle.outcomes.specs.Outcome.{test, answered, served, reaches}
+use Rattle.outcomes.proofs.OutcomeLaws.{Passed, _and_, answered-here, answered-taken, served-bounds, reaches-le}
 use Rattle.masking.specs.Calls.{two-fit, Factor-tests}
 
 pub two-fit-lengths : (d a b : ℕ) → two-fit d a b ≡ true → (a ≡ suc d) × (b ≡ suc d)

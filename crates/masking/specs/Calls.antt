@@ -7,8 +7,8 @@ use lib.Dec.{eqb}
 use lib.ListN.{length}
 use Rattle.gf256.specs.Field.{times}
 use Rattle.isw.specs.Place.{product-need, product}
-use Rattle.shares.specs.declared.Refusal.the-variants.{Order, Input, Output, Tape}
-use Rattle.shares.specs.Outcome.{Outcome, Test, test, took, settled, served, reaches}
+use Rattle.outcomes.specs.declared.Refusal.the-variants.{Order, Input, Output, Tape}
+use Rattle.outcomes.specs.Outcome.{Outcome, Test, test, took, settled, served, reaches}
 
 -- both factors have n shares
 unfoldable pub two-fit : (d left right : ℕ) → Bool

@@ -6,15 +6,15 @@ ghost use lib.ListN.{length};
 ghost use Rattle.gf256.specs.Field as Field;
 ghost use Rattle.gf256.specs.Tables.{Tables};
 ghost use Rattle.isw.specs.Place as Place;
-ghost use Rattle.shares.specs.Outcome.{outcome, answered, took};
+ghost use Rattle.outcomes.specs.Outcome.{outcome, answered, took};
 ghost use Rattle.masking.specs.Steps;
 ghost use Rattle.masking.specs.Fits.{Factors-fit, Row-fits};
 ghost use Rattle.masking.specs.Calls.{two-fit, Factor-tests, Product-outcome};
 use gf256::Antilogs;
 use gf256::Logs;
-use shares::Answer;
-use shares::Count;
-use shares::Refusal;
+use outcomes::Answer;
+use outcomes::Count;
+use outcomes::Refusal;
 
 // How many bytes a product of order d draws.
 pub fn product_need(d: usize) -> usize
@@ -46,7 +46,7 @@ pub fn factors_answer(
 ) -> Answer
     ensures { λ r. ⌜ r ≡ answered (Factor-tests room order left right tape output) (took (Place.product-need order)) ⌝ }
 {
-    if !shares::answers::served(order) {
+    if !outcomes::asked::served(order) {
         return Answer::Refused(Refusal::Order);
     }
     if !two_fit(order, left, right) {
@@ -150,7 +150,7 @@ pub fn masked_product(
         ≡ Product-outcome order (now (left .entry)) (now (right .entry)) (now (tape .entry)) (now (output .entry)) ⌝ }
 {
     let answer = factors_answer(
-        shares::answers::share_count(order),
+        outcomes::asked::share_count(order),
         order,
         left.len(),
         right.len(),

@@ -18,9 +18,9 @@ use Rattle.isw.specs.Document03 as Document03
 use Rattle.isw.proofs.Hiding.{hides}
 use Rattle.isw.proofs.JoinLaws.{product-joins-all}
 use Rattle.isw.proofs.Document03Laws.{hides-document03}
-use Rattle.shares.specs.Outcome as Outcome
-use Rattle.shares.specs.Outcome.{took, served}
-use Rattle.shares.proofs.OutcomeLaws.{all, _and_, settled-passed, le-reaches}
+use Rattle.outcomes.specs.Outcome as Outcome
+use Rattle.outcomes.specs.Outcome.{took, served}
+use Rattle.outcomes.proofs.OutcomeLaws.{all, _and_, settled-passed, le-reaches}
 use Rattle.readings.specs.Calls.{all-below, Reading-outcome}
 use Rattle.readings.proofs.ReadingLaws.{two-fit-both}
 

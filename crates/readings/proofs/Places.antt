@@ -7,9 +7,9 @@ use Rattle.xor.specs.Lists.{at}
 use Rattle.gf256.specs.Field.{times}
 use Rattle.isw.specs.Place.{places, outputs, value, sheet, product, listed, product-need}
 use Rattle.isw.proofs.SheetLaws.{product-shown}
-use Rattle.shares.specs.declared.Count.{Count}
-use Rattle.shares.specs.Outcome.{done, took}
-use Rattle.shares.proofs.OutcomeLaws.{settled-taken}
+use Rattle.outcomes.specs.declared.Count.{Count}
+use Rattle.outcomes.specs.Outcome.{done, took}
+use Rattle.outcomes.proofs.OutcomeLaws.{settled-taken}
 use Rattle.masking.specs.Calls.{Product-outcome}
 use Rattle.sheets.specs.Calls.{Sheet-outcome}
 use Rattle.readings.specs.Calls.{Reading-outcome}

@@ -11,13 +11,13 @@ use Rattle.xor.proofs.Tests.{true-false}
 use Rattle.gf256.specs.Field.{times}
 use Rattle.isw.specs.Place.{place-count, product-need, sheet, listed}
 use Rattle.isw.proofs.SheetLaws.{length-sheet}
-use Rattle.shares.specs.declared.Refusal.{Refusal}
-use Rattle.shares.specs.declared.Refusal.the-variants.{Order, Input, Output, Tape}
-use Rattle.shares.specs.declared.Count.{Count}
-use Rattle.shares.specs.declared.Answer.{Answer}
-use Rattle.shares.specs.declared.Answer.the-variants.{Taken, Refused}
-use Rattle.shares.specs.Outcome.{done, outcome, Test, took, answered, settled, served, reaches}
-use Rattle.shares.proofs.OutcomeLaws.{Passed, _and_, answered-next, answered-taken, outcome-answer, settled-refused, settled-done, settled-taken}
+use Rattle.outcomes.specs.declared.Refusal.{Refusal}
+use Rattle.outcomes.specs.declared.Refusal.the-variants.{Order, Input, Output, Tape}
+use Rattle.outcomes.specs.declared.Count.{Count}
+use Rattle.outcomes.specs.declared.Answer.{Answer}
+use Rattle.outcomes.specs.declared.Answer.the-variants.{Taken, Refused}
+use Rattle.outcomes.specs.Outcome.{done, outcome, Test, took, answered, settled, served, reaches}
+use Rattle.outcomes.proofs.OutcomeLaws.{Passed, _and_, answered-next, answered-taken, outcome-answer, settled-refused, settled-done, settled-taken}
 use Rattle.masking.specs.Calls.{two-fit, Factor-tests}
 use Rattle.sheets.specs.Calls.{Sheet-outcome}
 use Rattle.readings.specs.Calls.{all-below, Listed-tests, Reading-tests, Reading-outcome}

@@ -7,8 +7,8 @@ use lib.Dec.{ltb, eqb}
 use lib.ListN.{length}
 use Rattle.gf256.specs.Field.{times}
 use Rattle.isw.specs.Place.{place-count, product-need, sheet, listed}
-use Rattle.shares.specs.declared.Refusal.the-variants.{Order, Input, Output, Tape, List as Listed, Place}
-use Rattle.shares.specs.Outcome.{Outcome, Test, test, took, settled, served, reaches}
+use Rattle.outcomes.specs.declared.Refusal.the-variants.{Order, Input, Output, Tape, List as Listed, Place}
+use Rattle.outcomes.specs.Outcome.{Outcome, Test, test, took, settled, served, reaches}
 use Rattle.masking.specs.Calls.{two-fit}
 
 -- every listed place is below m

@@ -3,12 +3,12 @@ ghost use mathlib.Core.Path.{_≡_};
 ghost use mathlib.Core.Bool.{true};
 ghost use lib.ListN.{length};
 ghost use Rattle.isw.specs.Place as Place;
-ghost use Rattle.shares.specs.Outcome.{outcome, answered, served};
+ghost use Rattle.outcomes.specs.Outcome.{outcome, answered, served};
 ghost use Rattle.readings.specs.Calls as Calls;
 ghost use Rattle.readings.specs.Calls.{Listed-tests, Reading-outcome};
-use shares::Answer;
-use shares::Count;
-use shares::Refusal;
+use outcomes::Answer;
+use outcomes::Count;
+use outcomes::Refusal;
 
 // Whether each place of the list is below size.
 fn all_below(size: usize, list: &[u16]) -> bool

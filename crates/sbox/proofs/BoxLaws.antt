@@ -15,7 +15,7 @@ use Rattle.gf256.specs.declared.Direction.the-variants.{Forward, Inverse}
 use Rattle.gf256.specs.Field.{inverse, linear-by, affine-by, rows, constant, affine, s-box}
 use Rattle.gf256.specs.Field.{inverse-rows, inverse-constant, inverse-affine, inverse-s-box}
 use Rattle.gf256.specs.Directions.{constant-of, affine-of, s-box-of}
-use Rattle.gf256.proofs.AffineLaws.{joined-affine-by, once-more, affine-lt}
+use Rattle.byte_maps.proofs.AffineLaws.{joined-affine-by, once-more, affine-lt}
 use Rattle.shares.specs.Refresh.{into}
 use Rattle.shares.proofs.RefreshLaws.{length-into, joined-into, into-below}
 use Rattle.power254.specs.Power254.{power-254}

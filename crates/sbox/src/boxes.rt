@@ -6,16 +6,16 @@ ghost use Prim.Native.Nat.{_%_, _≤_, _<_};
 ghost use lib.ListN.{length};
 ghost use Rattle.gf256.specs.Directions.{affine-of, constant-of};
 ghost use Rattle.gf256.specs.Tables.{Tables};
-ghost use Rattle.shares.specs.Outcome as Outcome;
-ghost use Rattle.shares.specs.Outcome.{outcome};
+ghost use Rattle.outcomes.specs.Outcome as Outcome;
+ghost use Rattle.outcomes.specs.Outcome.{outcome};
 ghost use Rattle.sbox.specs.Box;
 ghost use Rattle.power254.specs.Fits.{Power-fits};
 ghost use Rattle.sbox.specs.Calls.{Box-outcome};
 use gf256::Antilogs;
 use gf256::Direction;
 use gf256::Logs;
-use shares::Answer;
-use shares::Count;
+use outcomes::Answer;
+use outcomes::Count;
 
 // The affine map of each share. The shares are taken by a list of their numbers: a compiler that does not know them for neighbours has no use for
 // a register with two of them in it, whose shifts would bring bits of the one into the other's byte (the rule at the head of masking's steps.rt).
@@ -26,7 +26,7 @@ fn affine_all(which: Direction, x: &mut [u8])
     let numbers = [0u8, 1, 2, 3, 4, 5, 6, 7, 8];
     for k in 0..x.len() {
         let i = numbers[k] as usize;
-        x[i] = gf256::affine(which, x[i]);
+        x[i] = byte_maps::affine(which, x[i]);
     }
 }
 
@@ -36,7 +36,7 @@ fn correct(which: Direction, d: usize, x: &mut [u8])
     ensures { λ _. ⌜ now (x .exit) ≡ Box.corrected (constant-of which) (d % 2) (now (x .entry)) ⌝ }
 {
     if d % 2 == 1 {
-        x[0] = x[0] ^ gf256::constant(which);
+        x[0] = x[0] ^ byte_maps::constant(which);
     }
 }
 
@@ -98,7 +98,7 @@ pub fn box_of(
 fn call_need(order: usize) -> usize
     ensures { λ r. ⌜ (Outcome.served order ≡ true → r ≡ Box.box-need order) ⌝ }
 {
-    if shares::answers::served(order) {
+    if outcomes::asked::served(order) {
         return box_need(order);
     }
     0

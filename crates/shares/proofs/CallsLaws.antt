@@ -5,14 +5,14 @@ use mathlib.Core.List.{List, [], _∷_}
 use Prim.Native.Nat.{ℕ, suc, _*_, _≤_, _<_}
 use lib.Dec.{ltb, eqb}
 use borrow.Author.Tests.{eqb-true, ltb-true}
-use Rattle.shares.specs.declared.Refusal.the-variants.{Order, Input, Output, Tape}
-use Rattle.shares.specs.declared.Count.{Count}
-use Rattle.shares.specs.declared.Answer.{Answer}
-use Rattle.shares.specs.declared.Answer.the-variants.{Taken}
-use Rattle.shares.specs.Outcome.{Test, test, answered, took, served, reaches, share-length}
+use Rattle.outcomes.specs.declared.Refusal.the-variants.{Order, Input, Output, Tape}
+use Rattle.outcomes.specs.declared.Count.{Count}
+use Rattle.outcomes.specs.declared.Answer.{Answer}
+use Rattle.outcomes.specs.declared.Answer.the-variants.{Taken}
+use Rattle.outcomes.specs.Outcome.{Test, test, answered, took, served, reaches, share-length}
 use Rattle.shares.specs.Strings.{split-need}
 use Rattle.shares.specs.Calls.{Byte-tests, Split-tests, Join-tests}
-use Rattle.shares.proofs.OutcomeLaws.{Passed, _and_, answered-here, answered-taken, served-bounds, reaches-le}
+use Rattle.outcomes.proofs.OutcomeLaws.{Passed, _and_, answered-here, answered-taken, served-bounds, reaches-le}
 
 -- ---- the shares of one byte
 

@@ -6,12 +6,12 @@ use native.Mathlib.Nat.{one-mul}
 use native.Mathlib.Omega.{arith}
 use lib.ListN.{length}
 use borrow.Author.Tests.{eq-eqb, lt-ltb}
-use Rattle.shares.specs.declared.Count.{Count}
-use Rattle.shares.specs.Outcome.{done, took, share-length}
+use Rattle.outcomes.specs.declared.Count.{Count}
+use Rattle.outcomes.specs.Outcome.{done, took, share-length}
 use Rattle.shares.specs.Strings.{joined-string, laid, parts, split, split-need}
 use Rattle.shares.specs.Calls.{Split-outcome, Join-outcome}
-use Rattle.shares.proofs.OutcomeLaws.{all, _and_, first-passed, settled-taken, settled-passed}
-use Rattle.shares.proofs.LengthsLaws.{share-length-is, share-length-laid}
+use Rattle.outcomes.proofs.OutcomeLaws.{all, _and_, first-passed, settled-taken, settled-passed}
+use Rattle.outcomes.proofs.LengthsLaws.{share-length-is, share-length-laid}
 use Rattle.shares.proofs.CallsLaws.{split-passed}
 use Rattle.shares.proofs.StringsLaws.{parts-laid, laid-length, shared-split, split-joins}
 

@@ -3,13 +3,13 @@ ghost use mathlib.Core.Path.{_≡_};
 ghost use Prim.Native.Nat.{suc, _*_, _≤_};
 ghost use lib.ListN.{length};
 ghost use Rattle.xor.specs.Sums.{xors};
-ghost use Rattle.shares.specs.Outcome.{outcome, answered, took};
+ghost use Rattle.outcomes.specs.Outcome.{outcome, answered, took};
 ghost use Rattle.shares.specs.Strings.{joined-string, parts};
 ghost use Rattle.shares.specs.Calls.{Join-tests, Join-outcome};
-use crate::Answer;
-use crate::Count;
-use crate::Refusal;
-use crate::answers;
+use outcomes::Answer;
+use outcomes::Count;
+use outcomes::Refusal;
+use outcomes::asked;
 
 // The first d parts of bytes, each as long as x, XORed into x; answers with how many bytes that took.
 pub fn xor_parts(d: usize, bytes: &[u8], x: &mut [u8]) -> usize
@@ -39,10 +39,10 @@ fn join_core(d: usize, l: usize, input: &[u8], output: &mut [u8])
 fn join_answer(order: usize, input: usize, output: usize) -> Answer
     ensures { λ r. ⌜ r ≡ answered (Join-tests order input output) (took 0) ⌝ }
 {
-    if !answers::served(order) {
+    if !asked::served(order) {
         return Answer::Refused(Refusal::Order);
     }
-    let l = answers::share_length(order + 1, input);
+    let l = asked::share_length(order + 1, input);
     if l == 0 {
         return Answer::Refused(Refusal::Input);
     }

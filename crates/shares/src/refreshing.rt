@@ -3,14 +3,14 @@ ghost use mathlib.Core.Path.{_≡_};
 ghost use Prim.Native.Nat.{suc, _≤_, _<_};
 ghost use lib.ListN.{length};
 ghost use Rattle.xor.specs.Lists.{at, tab};
-ghost use Rattle.shares.specs.Outcome.{outcome, answered, took};
+ghost use Rattle.outcomes.specs.Outcome.{outcome, answered, took};
 ghost use Rattle.shares.specs.Refresh;
 ghost use Rattle.shares.specs.Writes.{front};
 ghost use Rattle.shares.specs.Calls.{Byte-tests, Refresh-outcome};
-use crate::Answer;
-use crate::Count;
-use crate::Refusal;
-use crate::answers;
+use outcomes::Answer;
+use outcomes::Count;
+use outcomes::Refusal;
+use outcomes::asked;
 
 // How many bytes a refresh draws.
 pub fn refresh_need(d: usize) -> usize
@@ -55,7 +55,7 @@ pub fn refresh_core(d: usize, tape: &[u8], x: &mut [u8]) -> usize
 pub fn byte_answer(need: usize, order: usize, input: usize, tape: usize, output: usize) -> Answer
     ensures { λ r. ⌜ r ≡ answered (Byte-tests need order input tape output) (took need) ⌝ }
 {
-    if !answers::served(order) {
+    if !asked::served(order) {
         return Answer::Refused(Refusal::Order);
     }
     if input != order + 1 {

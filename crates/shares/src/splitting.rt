@@ -4,13 +4,13 @@ ghost use Prim.Native.Nat.{suc, _*_, _≤_};
 ghost use lib.ListN.{length};
 ghost use Rattle.xor.specs.Sums.{xors};
 ghost use Rattle.shares.specs.Writes.{front};
-ghost use Rattle.shares.specs.Outcome.{outcome, answered, took, share-length};
+ghost use Rattle.outcomes.specs.Outcome.{outcome, answered, took, share-length};
 ghost use Rattle.shares.specs.Strings.{joined-string, parts, laid, split, split-need};
 ghost use Rattle.shares.specs.Calls.{Split-tests, Split-outcome};
-use crate::Answer;
-use crate::Count;
-use crate::Refusal;
-use crate::answers;
+use outcomes::Answer;
+use outcomes::Count;
+use outcomes::Refusal;
+use outcomes::asked;
 
 // Share 0 over the front of out: the input with the first d parts of the tape XORed in. Answers with how many bytes were drawn.
 fn first_share(d: usize, input: &[u8], tape: &[u8], out: &mut [u8]) -> usize
@@ -40,10 +40,10 @@ fn split_core(d: usize, input: &[u8], tape: &[u8], output: &mut [u8]) -> usize
 fn split_answer(order: usize, input: usize, tape: usize, output: usize) -> Answer
     ensures { λ r. ⌜ r ≡ answered (Split-tests order input tape output) (took (split-need order (share-length 1 input))) ⌝ }
 {
-    if !answers::served(order) {
+    if !asked::served(order) {
         return Answer::Refused(Refusal::Order);
     }
-    let l = answers::share_length(1, input);
+    let l = asked::share_length(1, input);
     if l == 0 {
         return Answer::Refused(Refusal::Input);
     }

@@ -5,7 +5,7 @@ use Prim.Native.Nat.{ℕ}
 use lib.ListN.{length}
 use Rattle.gf256.specs.Field.{times}
 use Rattle.isw.specs.Place.{place-count, product-need, sheet}
-use Rattle.shares.specs.Outcome.{Outcome, took, settled}
+use Rattle.outcomes.specs.Outcome.{Outcome, took, settled}
 use Rattle.masking.specs.Calls.{Factor-tests}
 
 -- an output of P(d) bytes

@@ -7,8 +7,8 @@ ghost use lib.ListN.{length};
 ghost use Rattle.gf256.specs.Field as Field;
 ghost use Rattle.gf256.specs.Tables.{Tables};
 ghost use Rattle.isw.specs.Place as Place;
-ghost use Rattle.shares.specs.Outcome as Outcome;
-ghost use Rattle.shares.specs.Outcome.{outcome};
+ghost use Rattle.outcomes.specs.Outcome as Outcome;
+ghost use Rattle.outcomes.specs.Outcome.{outcome};
 ghost use Rattle.shares.specs.Writes.{front};
 ghost use Rattle.masking.specs.Fits.{Factors-fit};
 ghost use Rattle.sheets.specs.Fits.{Room-fits};
@@ -16,8 +16,8 @@ ghost use Rattle.sheet_parts.specs.Parts.{pairs-before, sums-before, table-rows
 ghost use Rattle.sheets.specs.Calls.{Sheet-outcome};
 use gf256::Antilogs;
 use gf256::Logs;
-use shares::Answer;
-use shares::Count;
+use outcomes::Answer;
+use outcomes::Count;
 
 // P(d), how many places there are.
 pub fn place_count(d: usize) -> usize
@@ -32,7 +32,7 @@ pub fn place_count(d: usize) -> usize
 pub fn sheet_size(order: usize) -> usize
     ensures { λ r. ⌜ (Outcome.served order ≡ true → r ≡ Place.place-count order) × (r ≤ 279) ⌝ }
 {
-    if shares::answers::served(order) {
+    if outcomes::asked::served(order) {
         return place_count(order);
     }
     0

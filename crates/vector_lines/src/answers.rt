@@ -1,6 +1,6 @@
 // Answers of the library as plain numbers: printed, and compared with the one that a line wants.
 use crate::lines;
-use shares::Answer;
+use outcomes::Answer;
 
 // What came of one call or of several: how many tape bytes were taken, or document 01's number of the refusal. Refusal 0 is none of the document's.
 pub struct Came {
@@ -16,7 +16,7 @@ pub fn of(a: Answer) -> Came {
         },
         Answer::Refused(r) => Came {
             served: false,
-            number: shares::answers::number(r) as usize,
+            number: outcomes::asked::number(r) as usize,
         },
     }
 }

@@ -8,8 +8,8 @@ use vector_lines::forms;
 use vector_lines::forms::Kind;
 use vector_lines::lines;
 use vector_routes::values;
-use vector_runs::runs;
-use vector_runs::tapes;
+use crate::runs;
+use crate::tapes;
 
 // An output; of round keys the last one.
 fn print_output(output: &[u8]) {

@@ -4,6 +4,8 @@
 mod comparisons;
 mod counts;
 mod products;
+mod runs;
+mod tapes;
 
 use crate::counts::Tally;
 use vector_lines::lines;

@@ -5,8 +5,8 @@ use borrow.Author.Needs.{needs}
 use denote.Ref.{now}
 use lib.ListN.{length}
 use Rattle.gf256.specs.Tables.{lent}
-use Rattle.shares.specs.Outcome.{took}
-use Rattle.shares.proofs.OutcomeLaws.{settled-refused, settled-done}
+use Rattle.outcomes.specs.Outcome.{took}
+use Rattle.outcomes.proofs.OutcomeLaws.{settled-refused, settled-done}
 use Rattle.cipher.specs.Cipher.{encrypted-with-need, encrypted-with-laid}
 use Rattle.lengths.specs.Lengths.{prepared-words}
 use Rattle.lengths.proofs.LengthsLaws.{prepared-long}

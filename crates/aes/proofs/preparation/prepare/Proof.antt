@@ -5,8 +5,8 @@ use borrow.Author.Needs.{needs}
 use denote.Ref.{now}
 use lib.ListN.{length}
 use Rattle.gf256.specs.Tables.{lent}
-use Rattle.shares.specs.Outcome.{took}
-use Rattle.shares.proofs.OutcomeLaws.{settled-refused, settled-done}
+use Rattle.outcomes.specs.Outcome.{took}
+use Rattle.outcomes.proofs.OutcomeLaws.{settled-refused, settled-done}
 use Rattle.cipher.specs.Cipher.{schedule-need, prepared-laid}
 use Rattle.lengths.proofs.LengthsLaws.{key-length}
 use Rattle.lengths.proofs.PreviewsLaws.{preparation-through}

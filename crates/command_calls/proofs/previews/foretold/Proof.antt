@@ -2,7 +2,7 @@
 use mathlib.Core.Path.{_≡_, ap, sym, _∙_}
 use Prim.Native.Nat.{ℕ}
 use borrow.Author.Needs.{needs}
-use Rattle.shares.specs.Outcome.{Outcome}
+use Rattle.outcomes.specs.Outcome.{Outcome}
 use Rattle.command_calls.specs.declared.previews.Route.{Route}
 use Rattle.command_calls.specs.declared.previews.Route.the-variants.{Encrypt, Decrypt, Prepare, EncryptPrepared}
 use Rattle.command_calls.specs.Previewed.{previewed}

@@ -6,7 +6,7 @@ use mathlib.Core.List.{List, [], _∷_}
 use denote.Enum.Declared.{tagOf}
 use denote.Ref.{now}
 use types.Run.{OneOf, miss}
-use Rattle.shares.specs.Outcome.{Outcome, refused}
+use Rattle.outcomes.specs.Outcome.{Outcome, refused}
 use Rattle.command_line.specs.declared.commands.Command.{Command}
 use Rattle.command_line.specs.declared.commands.Command.the-variants.{Encrypt, Decrypt, Prepare, EncryptPrepared, Split, Join, Refresh, Product}
 use Rattle.command_line.specs.declared.commands.Command.the-variants.{Sbox, Read, Sheet, Places, Tape, Preview, Help, Unknown}

@@ -2,7 +2,7 @@
 use Prim.Native.Nat.{_+_}
 use native.Mathlib.Omega.{arith}
 use borrow.Author.Needs.{needs}
-use Rattle.shares.proofs.LengthsLaws.{share-length-le}
+use Rattle.outcomes.proofs.LengthsLaws.{share-length-le}
 use Rattle.command_calls.proofs.routines.room.Statement.{statement}
 use Rattle.command_calls.proofs.routines.room.Tie as tie
 

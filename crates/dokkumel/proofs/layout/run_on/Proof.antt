@@ -2,7 +2,7 @@
 use mathlib.Core.Path.{sym, _∙_}
 use borrow.Author.Needs.{needs}
 use Rattle.xor.proofs.Tests.{not-false}
-use Rattle.shares.proofs.OutcomeLaws.{served-bounds}
+use Rattle.outcomes.proofs.OutcomeLaws.{served-bounds}
 use Rattle.lengths.specs.Lengths.{four, six, eight}
 use Rattle.dokkumel.proofs.layout.run_on.Statement.{statement}
 use Rattle.dokkumel.proofs.layout.run_on.Tie as tie

@@ -3,8 +3,8 @@ use mathlib.Core.Path.{sym, ap, _∙_}
 use Prim.Native.Nat.{ℕ}
 use borrow.Author.Needs.{needs}
 use denote.Ref.{now}
-use Rattle.shares.specs.declared.Answer.{Answer}
-use Rattle.shares.specs.Outcome.{outcome}
+use Rattle.outcomes.specs.declared.Answer.{Answer}
+use Rattle.outcomes.specs.Outcome.{outcome}
 use Rattle.dokkumel_c.specs.Returned.{gives, returned}
 use Rattle.dokkumel_c.proofs.status.returned.Statement.{statement}
 use Rattle.dokkumel_c.proofs.status.returned.Tie as tie

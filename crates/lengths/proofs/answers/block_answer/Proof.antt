@@ -4,7 +4,7 @@ use Prim.Native.Nat.{ℕ, suc, _+_, _*_}
 use native.Mathlib.Numerals.{add-one}
 use borrow.Author.Needs.{needs}
 use borrow.Author.Tests.{eq-eqb, ne-eqb}
-use Rattle.shares.proofs.OutcomeLaws.{answered-here, answered-next, answered-none, lt-reaches, le-reaches}
+use Rattle.outcomes.proofs.OutcomeLaws.{answered-here, answered-next, answered-none, lt-reaches, le-reaches}
 use Rattle.lengths.proofs.answers.block_answer.Statement.{statement}
 use Rattle.lengths.proofs.answers.block_answer.Tie as tie
 

@@ -4,9 +4,9 @@ use Prim.Native.Nat.{ℕ}
 use borrow.Author.Needs.{needs}
 use borrow.Author.Tests.{eq-eqb, ne-eqb}
 use Rattle.xor.proofs.Tests.{not-true, not-false}
-use Rattle.shares.specs.declared.Answer.the-variants.{Taken}
-use Rattle.shares.specs.Outcome.{took, reaches}
-use Rattle.shares.proofs.OutcomeLaws.{answered-here, answered-next, answered-none, served-bounds, lt-reaches, le-reaches}
+use Rattle.outcomes.specs.declared.Answer.the-variants.{Taken}
+use Rattle.outcomes.specs.Outcome.{took, reaches}
+use Rattle.outcomes.proofs.OutcomeLaws.{answered-here, answered-next, answered-none, served-bounds, lt-reaches, le-reaches}
 use Rattle.cipher.specs.Cipher.{schedule-need}
 use Rattle.lengths.specs.Lengths.{Key-size, prepared-length}
 use Rattle.lengths.proofs.LengthsLaws.{key-sized}

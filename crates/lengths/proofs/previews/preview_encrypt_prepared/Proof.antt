@@ -1,6 +1,6 @@
 -- `lengths::previews::preview_encrypt_prepared` meets its contract. Assumes nothing.
 use borrow.Author.Needs.{needs}
-use Rattle.shares.proofs.OutcomeLaws.{settled-same}
+use Rattle.outcomes.proofs.OutcomeLaws.{settled-same}
 use Rattle.lengths.specs.Previews.{Encrypt-prepared-preview}
 use Rattle.lengths.proofs.previews.preview_encrypt_prepared.Statement.{statement}
 use Rattle.lengths.proofs.previews.preview_encrypt_prepared.Tie as tie

@@ -1,6 +1,6 @@
 -- `lengths::previews::preview_prepare` meets its contract. Assumes nothing.
 use borrow.Author.Needs.{needs}
-use Rattle.shares.proofs.OutcomeLaws.{settled-same}
+use Rattle.outcomes.proofs.OutcomeLaws.{settled-same}
 use Rattle.lengths.specs.Previews.{Prepare-preview}
 use Rattle.lengths.proofs.previews.preview_prepare.Statement.{statement}
 use Rattle.lengths.proofs.previews.preview_prepare.Tie as tie

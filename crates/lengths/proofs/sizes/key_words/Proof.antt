@@ -4,8 +4,8 @@ use Prim.Native.Nat.{ℕ, _≤_, _+_, _/_}
 use native.Mathlib.Numerals.{add-one}
 use native.Mathlib.Omega.{arith}
 use borrow.Author.Needs.{needs}
-use Rattle.shares.specs.Outcome.{share-length}
-use Rattle.shares.proofs.LengthsLaws.{share-length-le}
+use Rattle.outcomes.specs.Outcome.{share-length}
+use Rattle.outcomes.proofs.LengthsLaws.{share-length-le}
 use Rattle.lengths.specs.Lengths.{key-words}
 use Rattle.lengths.proofs.sizes.key_words.Statement.{statement}
 use Rattle.lengths.proofs.sizes.key_words.Tie as tie

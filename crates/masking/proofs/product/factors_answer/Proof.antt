@@ -4,9 +4,9 @@ use Prim.Native.Nat.{ℕ}
 use borrow.Author.Needs.{needs}
 use borrow.Author.Tests.{eq-eqb, ne-eqb}
 use Rattle.xor.proofs.Tests.{not-true, not-false}
-use Rattle.shares.specs.Outcome.{reaches, took}
-use Rattle.shares.specs.declared.Answer.the-variants.{Taken}
-use Rattle.shares.proofs.OutcomeLaws.{answered-here, answered-next, answered-none, served-bounds, lt-reaches, le-reaches}
+use Rattle.outcomes.specs.Outcome.{reaches, took}
+use Rattle.outcomes.specs.declared.Answer.the-variants.{Taken}
+use Rattle.outcomes.proofs.OutcomeLaws.{answered-here, answered-next, answered-none, served-bounds, lt-reaches, le-reaches}
 use Rattle.masking.proofs.product.factors_answer.Statement.{statement}
 use Rattle.masking.proofs.product.factors_answer.Tie as tie
 

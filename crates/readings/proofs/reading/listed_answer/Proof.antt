@@ -1,7 +1,7 @@
 -- `readings::reading::listed_answer` meets its contract. Assumes nothing.
 use borrow.Author.Tests.{eq-eqb, ne-eqb}
 use Rattle.xor.proofs.Tests.{not-true, not-false}
-use Rattle.shares.proofs.OutcomeLaws.{answered-here, answered-next, answered-none, lt-reaches, le-reaches}
+use Rattle.outcomes.proofs.OutcomeLaws.{answered-here, answered-next, answered-none, lt-reaches, le-reaches}
 use Rattle.readings.proofs.reading.listed_answer.Statement.{statement}
 use Rattle.readings.proofs.reading.listed_answer.Tie as tie
 

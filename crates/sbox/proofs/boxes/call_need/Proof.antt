@@ -2,7 +2,7 @@
 use mathlib.Core.Path.{sym, _∙_}
 use borrow.Author.Needs.{needs}
 use Rattle.xor.proofs.Tests.{true-false}
-use Rattle.shares.proofs.OutcomeLaws.{served-bounds}
+use Rattle.outcomes.proofs.OutcomeLaws.{served-bounds}
 use Rattle.sbox.proofs.boxes.call_need.Statement.{statement}
 use Rattle.sbox.proofs.boxes.call_need.Tie as tie
 

@@ -7,8 +7,8 @@ use borrow.Author.Needs.{needs}
 use denote.Ref.{now}
 use lib.ListN.{length}
 use Rattle.gf256.specs.Tables.{lent}
-use Rattle.shares.specs.Outcome.{took}
-use Rattle.shares.proofs.OutcomeLaws.{settled-refused, settled-done}
+use Rattle.outcomes.specs.Outcome.{took}
+use Rattle.outcomes.proofs.OutcomeLaws.{settled-refused, settled-done}
 use Rattle.shares.proofs.CallsLaws.{byte-answered, byte-through}
 use Rattle.shares.proofs.WriteLaws.{front-all}
 use Rattle.sbox.specs.Box.{box}

@@ -6,8 +6,8 @@ use denote.Ref.{now}
 use lib.ListN.{length}
 use Rattle.shares.specs.Strings.{joined-string, parts}
 use Rattle.shares.specs.Calls.{Join-outcome}
-use Rattle.shares.proofs.OutcomeLaws.{settled-refused, settled-done}
-use Rattle.shares.proofs.LengthsLaws.{share-length-is}
+use Rattle.outcomes.proofs.OutcomeLaws.{settled-refused, settled-done}
+use Rattle.outcomes.proofs.LengthsLaws.{share-length-is}
 use Rattle.shares.proofs.CallsLaws.{join-through}
 use Rattle.shares.proofs.joining.join.Statement.{statement}
 use Rattle.shares.proofs.joining.join.Tie as tie

@@ -6,8 +6,8 @@ use native.Mathlib.Omega.{arith}
 use borrow.Author.Needs.{needs}
 use borrow.Author.Tests.{eq-eqb, ne-eqb, lt-ltb, le-ltb}
 use Rattle.xor.proofs.Tests.{not-true, not-false}
-use Rattle.shares.specs.Outcome.{share-length}
-use Rattle.shares.proofs.OutcomeLaws.{answered-here, answered-next, answered-none, served-bounds}
+use Rattle.outcomes.specs.Outcome.{share-length}
+use Rattle.outcomes.proofs.OutcomeLaws.{answered-here, answered-next, answered-none, served-bounds}
 use Rattle.shares.proofs.CallsLaws.{join-answered}
 use Rattle.shares.proofs.joining.join_answer.Statement.{statement}
 use Rattle.shares.proofs.joining.join_answer.Tie as tie

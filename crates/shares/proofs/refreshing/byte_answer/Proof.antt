@@ -5,7 +5,7 @@ use native.Mathlib.Omega.{arith}
 use borrow.Author.Needs.{needs}
 use borrow.Author.Tests.{eq-eqb, ne-eqb}
 use Rattle.xor.proofs.Tests.{not-true, not-false}
-use Rattle.shares.proofs.OutcomeLaws.{answered-here, answered-next, answered-none, served-bounds, lt-reaches, le-reaches}
+use Rattle.outcomes.proofs.OutcomeLaws.{answered-here, answered-next, answered-none, served-bounds, lt-reaches, le-reaches}
 use Rattle.shares.proofs.refreshing.byte_answer.Statement.{statement}
 use Rattle.shares.proofs.refreshing.byte_answer.Tie as tie
 

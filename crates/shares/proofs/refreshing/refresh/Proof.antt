@@ -6,10 +6,10 @@ use native.Mathlib.Omega.{arith}
 use borrow.Author.Needs.{needs}
 use denote.Ref.{now}
 use lib.ListN.{length}
-use Rattle.shares.specs.Outcome.{took}
+use Rattle.outcomes.specs.Outcome.{took}
 use Rattle.shares.specs.Calls.{Refresh-outcome}
 use Rattle.shares.specs.Refresh.{refreshed}
-use Rattle.shares.proofs.OutcomeLaws.{settled-refused, settled-done}
+use Rattle.outcomes.proofs.OutcomeLaws.{settled-refused, settled-done}
 use Rattle.shares.proofs.CallsLaws.{byte-answered, byte-through}
 use Rattle.shares.proofs.WriteLaws.{front-all}
 use Rattle.shares.proofs.refreshing.refresh.Statement.{statement}

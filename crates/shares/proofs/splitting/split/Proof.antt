@@ -5,11 +5,11 @@ use native.Mathlib.Nat.{one-mul}
 use borrow.Author.Needs.{needs}
 use denote.Ref.{now}
 use lib.ListN.{length}
-use Rattle.shares.specs.Outcome.{took, share-length}
+use Rattle.outcomes.specs.Outcome.{took, share-length}
 use Rattle.shares.specs.Strings.{split-need}
 use Rattle.shares.specs.Calls.{Split-outcome}
-use Rattle.shares.proofs.OutcomeLaws.{settled-refused, settled-done}
-use Rattle.shares.proofs.LengthsLaws.{share-length-is}
+use Rattle.outcomes.proofs.OutcomeLaws.{settled-refused, settled-done}
+use Rattle.outcomes.proofs.LengthsLaws.{share-length-is}
 use Rattle.shares.proofs.CallsLaws.{split-through}
 use Rattle.shares.proofs.splitting.split.Statement.{statement}
 use Rattle.shares.proofs.splitting.split.Tie as tie

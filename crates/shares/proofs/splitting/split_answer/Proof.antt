@@ -7,8 +7,8 @@ use native.Mathlib.Omega.{arith}
 use borrow.Author.Needs.{needs}
 use borrow.Author.Tests.{eq-eqb, ne-eqb, lt-ltb, le-ltb}
 use Rattle.xor.proofs.Tests.{not-true, not-false}
-use Rattle.shares.proofs.OutcomeLaws.{answered-here, answered-next, answered-none, served-bounds, lt-reaches, le-reaches}
-use Rattle.shares.proofs.LengthsLaws.{share-length-le}
+use Rattle.outcomes.proofs.OutcomeLaws.{answered-here, answered-next, answered-none, served-bounds, lt-reaches, le-reaches}
+use Rattle.outcomes.proofs.LengthsLaws.{share-length-le}
 use Rattle.shares.proofs.CallsLaws.{split-answered}
 use Rattle.shares.proofs.splitting.split_answer.Statement.{statement}
 use Rattle.shares.proofs.splitting.split_answer.Tie as tie

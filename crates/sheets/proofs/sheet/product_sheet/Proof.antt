@@ -4,8 +4,8 @@ use borrow.Author.Needs.{needs}
 use denote.Ref.{now}
 use lib.ListN.{length}
 use Rattle.gf256.specs.Tables.{lent}
-use Rattle.shares.specs.Outcome.{took}
-use Rattle.shares.proofs.OutcomeLaws.{settled-refused, settled-done}
+use Rattle.outcomes.specs.Outcome.{took}
+use Rattle.outcomes.proofs.OutcomeLaws.{settled-refused, settled-done}
 use Rattle.masking.proofs.CallsLaws.{factors-answered, factors-through}
 use Rattle.sheets.specs.Calls.{Sheet-outcome}
 use Rattle.sheets.proofs.sheet.product_sheet.Statement.{statement}

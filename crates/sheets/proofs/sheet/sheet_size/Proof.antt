@@ -3,7 +3,7 @@ use mathlib.Core.Path.{sym, _∙_}
 use native.Mathlib.Omega.{arith}
 use borrow.Author.Needs.{needs}
 use Rattle.xor.proofs.Tests.{true-false}
-use Rattle.shares.proofs.OutcomeLaws.{served-bounds}
+use Rattle.outcomes.proofs.OutcomeLaws.{served-bounds}
 use Rattle.sheets.proofs.sheet.sheet_size.Statement.{statement}
 use Rattle.sheets.proofs.sheet.sheet_size.Tie as tie
 

@@ -1,0 +1,2 @@
+pub mod AffineLaws
+pub mod ColumnLaws
