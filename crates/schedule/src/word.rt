@@ -112,28 +112,6 @@ fn make_temp(
     0
 }
 
-// Word i in all shares, with room for the temporary word. Answers with how many bytes were drawn.
-fn word_with(
-    logs: &Logs,
-    antilogs: &Antilogs,
-    nk: usize,
-    d: usize,
-    m: usize,
-    i: usize,
-    tape: &[u8],
-    t: &mut [u8],
-    keys: &mut [u8],
-) -> usize
-    requires { ⌜ Word-fits nk d m i (now keys) (now tape) × (length (now t) ≡ suc d * 4) × Tables (now logs) (now antilogs) ⌝ }
-    ensures { λ r. ⌜ (r ≡ temp-need d (kind nk i))
-        × (now (keys .exit) ≡ word-stored nk d m i (now (keys .entry)) (now (tape .entry))) ⌝ }
-{
-    fetch(d, m, i - 1, keys, t);
-    let drawn = make_temp(logs, antilogs, nk, d, i, tape, t);
-    store_all(nk, d, m, i, t, keys);
-    drawn
-}
-
 // Word i in all shares. Answers with how many bytes were drawn.
 pub fn next_word(
     logs: &Logs,
@@ -149,7 +127,11 @@ pub fn next_word(
     ensures { λ r. ⌜ (r ≡ temp-need d (kind nk i))
         × (now (keys .exit) ≡ word-stored nk d m i (now (keys .entry)) (now (tape .entry))) ⌝ }
 {
-    let mut t = [0u8; 36];
+    let mut room = [0u8; 36];
     let n = (d + 1) * 4;
-    word_with(logs, antilogs, nk, d, m, i, tape, &mut t[0..n], keys)
+    let t = &mut room[0..n];
+    fetch(d, m, i - 1, keys, t);
+    let drawn = make_temp(logs, antilogs, nk, d, i, tape, t);
+    store_all(nk, d, m, i, t, keys);
+    drawn
 }

@@ -1,6 +1,8 @@
 // A line is run, and what came is compared with what it wants.
 use crate::counts;
 use crate::counts::Tally;
+use crate::runs;
+use crate::tapes;
 use text::hexadecimal;
 use vector_lines::answers;
 use vector_lines::answers::Came;
@@ -8,8 +10,6 @@ use vector_lines::forms;
 use vector_lines::forms::Kind;
 use vector_lines::lines;
 use vector_routes::values;
-use crate::runs;
-use crate::tapes;
 
 // An output; of round keys the last one.
 fn print_output(output: &[u8]) {

@@ -1,10 +1,25 @@
--- `schedule::word::word_with` meets its contract. Assumes nothing.
+-- `schedule::word::next_word` meets its contract. Assumes nothing.
 use native.Mathlib.Omega.{arith}
 use borrow.Author.Needs.{needs}
 use denote.Ref.{now}
 use Rattle.schedule.proofs.WordLaws.{word-is}
-use Rattle.schedule.proofs.word.word_with.Statement.{statement}
-use Rattle.schedule.proofs.word.word_with.Tie as tie
+use Rattle.schedule.proofs.word.next_word.Statement.{statement}
+use Rattle.schedule.proofs.word.next_word.Tie as tie
+
+add-n : tie.Need-add-n
+add-n c = search needs
+
+mul-n : tie.Need-mul-n
+mul-n c = search needs
+
+sub-t : tie.Need-sub-t
+sub-t c = search needs
+
+part-room-start : tie.Need-part-room-start
+part-room-start c = search needs
+
+part-room-end : tie.Need-part-room-end
+part-room-end c = search needs
 
 sub-fetch : tie.Need-sub-fetch
 sub-fetch c = search needs
@@ -23,12 +38,9 @@ store-all-requires c κs = search needs
 same-length : tie.Need-same-length
 same-length c = search needs
 
-same-length-2 : tie.Need-same-length-2
-same-length-2 c = search needs
-
 returns : tie.Need-returns
 returns c =
-    let third = c .before .before in
+    let third = c .before .before .before in
     let second = third .before .before .before .before .before in
     let first = second .before .before .before .before in
     let v = first .before .before .before .before .before .before .args in
@@ -36,14 +48,18 @@ returns c =
     let word = word-is (v .nk) (v .d) (v .m) (v .i) (now (v .keys)) (now (v .tape)) _ _ _ (first .fetch .ensures) (made .1) in
     (made .0, word (third .store-all .ensures))
 
-pub word-with-spec : {M : Type 1} → statement M
-word-with-spec =
+pub next-word-spec : {M : Type 1} → statement M
+next-word-spec =
     tie.close
     (tie.spec
+    add-n
+    mul-n
+    sub-t
+    part-room-start
+    part-room-end
     sub-fetch
     fetch-requires
     make-temp-requires
     store-all-requires
     same-length
-    same-length-2
     returns)
