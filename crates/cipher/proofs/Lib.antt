@@ -11,7 +11,6 @@ pub mod Accuracy
 pub mod InverseCipherLaws
 pub mod SurplusLaws
 pub mod SmallValues
-pub mod Example
 pub mod TurnedLaws
 pub mod Document03Laws
 pub mod Document03Joins

@@ -8,12 +8,13 @@ mod help;
 mod layout;
 mod places;
 mod reading;
+mod routines;
 mod sheet;
 
-use command_calls::previews;
 use command_line::commands;
 use command_line::commands::Command;
 use command_line::faults;
+use command_previews::previews;
 
 fn run(c: Command) {
     match c {

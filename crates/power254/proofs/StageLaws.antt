@@ -1,11 +1,12 @@
 -- The stages of power 254, put together from what each call leaves. Assumes nothing.
 use mathlib.Core.Path.{_≡_, refl}
 use mathlib.Core.List.{List, map}
-use Prim.Native.Nat.{ℕ, _-_}
+use Prim.Native.Nat.{ℕ, _+_, _-_}
 use lib.ListN.{length, take, drop}
+use lib.Seq.{drop-drop}
 use Rattle.gf256.specs.Field.{sixteenth}
 use Rattle.isw.specs.Place.{product-need}
-use Rattle.shares.specs.Refresh.{refreshed}
+use Rattle.shares.specs.Refresh.{refreshed, refresh-need}
 use Rattle.shares.proofs.WriteLaws.{part-rest}
 use Rattle.power254.specs.Power254.{masked-product, stage-z, stage-y, stage-w, stage-v, stage-last, stage-need, power-254}
 
@@ -23,16 +24,20 @@ module _ (d : ℕ) where
       → o ≡ masked-product d a′ b′ (drop n ts)
   product-after k n a b a′ b′ ts o e₁ e₂ e₃ e₄ = rw (e₄, part-rest ts k, e₁, e₂, e₃) refl
 
-  -- the last stage: q is v¹⁶, y that times w, o that times z
-  pub last-after : (k : ℕ) (v w z ts q y o : List ℕ) → q ≡ map sixteenth v → y ≡ masked-product d q w ts → k ≡ product-need d
-      → o ≡ masked-product d y z (rest ts k) → o ≡ stage-last d v w z ts
+  -- the last stage: v is y times w, q is v¹⁶, u that times w, o that times z
+  pub last-after : (k m : ℕ) (y w z ts v q u o : List ℕ) → v ≡ masked-product d y w ts → k ≡ product-need d → q ≡ map sixteenth v
+      → u ≡ masked-product d q w (rest ts k) → m ≡ product-need d → o ≡ masked-product d u z (rest ts (k + m))
+      → o ≡ stage-last d (masked-product d y w ts) w z (drop (product-need d) ts)
   unfolding stage-last
-  last-after k v w z ts q y o e₁ e₂ e₃ e₄ = product-after k (product-need d) y z _ z ts o e₃ (rw (e₂, e₁) refl) refl e₄
+  last-after k m y w z ts v q u o ev ek eq eu em eo =
+      rw (eo, part-rest ts (k + m), eu, part-rest ts k, eq, ev, ek, em, drop-drop (product-need d) (product-need d) ts) refl
 
-  -- the second and the last stage, which gets the tape from where the second ended
-  pub later-after : (k : ℕ) (y z ts w v o : List ℕ) → k ≡ stage-need d → w ≡ stage-w d y ts → v ≡ stage-v d y ts
-      → o ≡ stage-last d v w z (rest ts k) → o ≡ stage-last d (stage-v d y ts) (stage-w d y ts) z (drop (stage-need d) ts)
-  later-after k y z ts w v o e ew ev eo = rw (eo, part-rest ts k, ev, ew, e) refl
+  -- the second stage, and the last with the tape from where the refresh ended
+  pub later-after : (k : ℕ) (y z ts w o : List ℕ) → k ≡ refresh-need d → w ≡ stage-w d y ts
+      → o ≡ stage-last d (masked-product d y w (rest ts k)) w z (drop (product-need d) (rest ts k))
+      → o ≡ stage-last d (stage-v d y ts) (stage-w d y ts) z (drop (stage-need d) ts)
+  unfolding stage-v stage-need
+  later-after k y z ts w o e ew eo = rw (eo, part-rest ts k, ew, e, drop-drop (product-need d) (refresh-need d) ts) refl
 
   -- the first stage, and the later ones with the tape from where it ended
   pub power-after : (k : ℕ) (x ts z y o : List ℕ) → k ≡ stage-need d → z ≡ stage-z d x ts → y ≡ stage-y d x ts

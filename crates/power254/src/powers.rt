@@ -9,7 +9,7 @@ ghost use Rattle.gf256.specs.Tables.{Tables};
 ghost use Rattle.isw.specs.Place as Place;
 ghost use Rattle.shares.specs.Refresh as Refresh;
 ghost use Rattle.power254.specs.Power254;
-ghost use Rattle.power254.specs.Fits.{Refreshed-fits, Stage-fits, Last-fits, Later-fits, Power-fits};
+ghost use Rattle.power254.specs.Fits.{Refreshed-fits, First-fits, Last-fits, Later-fits, Power-fits};
 use gf256::Antilogs;
 use gf256::Exponent;
 use gf256::Logs;
@@ -24,25 +24,25 @@ fn raise(logs: &Logs, antilogs: &Antilogs, which: Exponent, x: &[u8], z: &mut [u
     }
 }
 
-// z = x², refreshed. Answers with how many bytes were drawn.
-fn make_z(logs: &Logs, antilogs: &Antilogs, d: usize, x: &[u8], tape: &[u8], z: &mut [u8]) -> usize
+// The same, refreshed. Answers with how many bytes were drawn.
+fn raise_refreshed(
+    logs: &Logs,
+    antilogs: &Antilogs,
+    which: Exponent,
+    d: usize,
+    x: &[u8],
+    tape: &[u8],
+    z: &mut [u8],
+) -> usize
     requires { ⌜ Refreshed-fits d (now x) (now tape) (now z) × Tables (now logs) (now antilogs) ⌝ }
-    ensures { λ r. ⌜ (r ≡ Refresh.refresh-need d) × (now (z .exit) ≡ Power254.stage-z d (now (x .entry)) (now (tape .entry))) ⌝ }
+    ensures { λ r. ⌜ (r ≡ Refresh.refresh-need d)
+        × (now (z .exit) ≡ Refresh.refreshed d (map (raised-to which) (now (x .entry))) (now (tape .entry))) ⌝ }
 {
-    raise(logs, antilogs, Exponent::Two, x, z);
+    raise(logs, antilogs, which, x, z);
     shares::refreshing::refresh_core(d, tape, z)
 }
 
-// w = y⁴, refreshed. Answers with how many bytes were drawn.
-fn make_w(logs: &Logs, antilogs: &Antilogs, d: usize, y: &[u8], tape: &[u8], w: &mut [u8]) -> usize
-    requires { ⌜ Refreshed-fits d (now y) (now tape) (now w) × Tables (now logs) (now antilogs) ⌝ }
-    ensures { λ r. ⌜ (r ≡ Refresh.refresh-need d) × (now (w .exit) ≡ Power254.stage-w d (now (y .entry)) (now (tape .entry))) ⌝ }
-{
-    raise(logs, antilogs, Exponent::Four, y, w);
-    shares::refreshing::refresh_core(d, tape, w)
-}
-
-// The first stage: z, and y = z·x. Answers with how many bytes were drawn.
+// The first stage: z = x², refreshed, and y = z·x. Answers with how many bytes were drawn.
 fn first_stage(
     logs: &Logs,
     antilogs: &Antilogs,
@@ -52,75 +52,60 @@ fn first_stage(
     z: &mut [u8],
     y: &mut [u8],
 ) -> usize
-    requires { ⌜ Stage-fits d (now x) (now tape) (now z) (now y) × Tables (now logs) (now antilogs) ⌝ }
+    requires { ⌜ First-fits d (now x) (now tape) (now z) (now y) × Tables (now logs) (now antilogs) ⌝ }
     ensures { λ r. ⌜ (r ≡ Power254.stage-need d) × (now (z .exit) ≡ Power254.stage-z d (now (x .entry)) (now (tape .entry)))
         × (now (y .exit) ≡ Power254.stage-y d (now (x .entry)) (now (tape .entry))) ⌝ }
 {
-    let drawn = make_z(logs, antilogs, d, x, tape, z);
+    let drawn = raise_refreshed(logs, antilogs, Exponent::Two, d, x, tape, z);
     drawn + masking::product::product_core(logs, antilogs, d, z, x, &tape[drawn..], y)
 }
 
-// The second stage: w, and v = y·w. Answers with how many bytes were drawn.
-fn second_stage(
-    logs: &Logs,
-    antilogs: &Antilogs,
-    d: usize,
-    y: &[u8],
-    tape: &[u8],
-    w: &mut [u8],
-    v: &mut [u8],
-) -> usize
-    requires { ⌜ Stage-fits d (now y) (now tape) (now w) (now v) × Tables (now logs) (now antilogs) ⌝ }
-    ensures { λ r. ⌜ (r ≡ Power254.stage-need d) × (now (w .exit) ≡ Power254.stage-w d (now (y .entry)) (now (tape .entry)))
-        × (now (v .exit) ≡ Power254.stage-v d (now (y .entry)) (now (tape .entry))) ⌝ }
-{
-    let drawn = make_w(logs, antilogs, d, y, tape, w);
-    drawn + masking::product::product_core(logs, antilogs, d, y, w, &tape[drawn..], v)
-}
-
-// The last stage: v¹⁶ into y, v¹⁶·w back into v, and that times z. Answers with how many bytes were drawn.
+// The last stage: v = y·w; v¹⁶ into the output; v¹⁶·w back into v; and that times z. Answers with how many bytes were drawn.
 fn last_stage(
     logs: &Logs,
     antilogs: &Antilogs,
     d: usize,
-    v: &mut [u8],
+    y: &[u8],
     w: &[u8],
     z: &[u8],
     tape: &[u8],
-    y: &mut [u8],
     output: &mut [u8],
 ) -> usize
-    requires { ⌜ Last-fits d (now v) (now w) (now z) (now tape) (now y) (now output) × Tables (now logs) (now antilogs) ⌝ }
-    ensures { λ r. ⌜ (r ≡ Place.product-need d + Place.product-need d)
-        × (now (output .exit) ≡ Power254.stage-last d (now (v .entry)) (now (w .entry)) (now (z .entry)) (now (tape .entry))) ⌝ }
+    requires { ⌜ Last-fits d (now y) (now w) (now z) (now tape) (now output) × Tables (now logs) (now antilogs) ⌝ }
+    ensures { λ r. ⌜ (r ≡ Place.product-need d + (Place.product-need d + Place.product-need d))
+        × (now (output .exit) ≡ Power254.stage-last d (Power254.masked-product d (now (y .entry)) (now (w .entry)) (now (tape .entry)))
+        (now (w .entry)) (now (z .entry)) (drop (Place.product-need d) (now (tape .entry)))) ⌝ }
 {
-    raise(logs, antilogs, Exponent::Sixteen, v, y);
-    let drawn = masking::product::product_core(logs, antilogs, d, y, w, tape, v);
-    drawn + masking::product::product_core(logs, antilogs, d, v, z, &tape[drawn..], output)
+    let mut room = [0u8; 9];
+    let n = d + 1;
+    let v = &mut room[0..n];
+    let first = masking::product::product_core(logs, antilogs, d, y, w, tape, v);
+    raise(logs, antilogs, Exponent::Sixteen, v, output);
+    let second = first
+        + masking::product::product_core(logs, antilogs, d, output, w, &tape[first..], v);
+    second + masking::product::product_core(logs, antilogs, d, v, z, &tape[second..], output)
 }
 
-// The second and the last stage; y is used up. Answers with how many bytes were drawn.
+// The second stage, w = y⁴, refreshed, and the last. Answers with how many bytes were drawn.
 fn later_stages(
     logs: &Logs,
     antilogs: &Antilogs,
     d: usize,
     z: &[u8],
+    y: &[u8],
     tape: &[u8],
-    y: &mut [u8],
     output: &mut [u8],
 ) -> usize
-    requires { ⌜ Later-fits d (now z) (now tape) (now y) (now output) × Tables (now logs) (now antilogs) ⌝ }
-    ensures { λ r. ⌜ (r ≡ Power254.stage-need d + (Place.product-need d + Place.product-need d))
+    requires { ⌜ Later-fits d (now z) (now y) (now tape) (now output) × Tables (now logs) (now antilogs) ⌝ }
+    ensures { λ r. ⌜ (r ≡ Refresh.refresh-need d + (Place.product-need d + (Place.product-need d + Place.product-need d)))
         × (now (output .exit) ≡ Power254.stage-last d (Power254.stage-v d (now (y .entry)) (now (tape .entry)))
         (Power254.stage-w d (now (y .entry)) (now (tape .entry))) (now (z .entry)) (drop (Power254.stage-need d) (now (tape .entry)))) ⌝ }
 {
-    let mut fourths = [0u8; 9];
-    let mut products = [0u8; 9];
+    let mut room = [0u8; 9];
     let n = d + 1;
-    let w = &mut fourths[0..n];
-    let v = &mut products[0..n];
-    let drawn = second_stage(logs, antilogs, d, y, tape, w, v);
-    drawn + last_stage(logs, antilogs, d, v, w, z, &tape[drawn..], y, output)
+    let w = &mut room[0..n];
+    let drawn = raise_refreshed(logs, antilogs, Exponent::Four, d, y, tape, w);
+    drawn + last_stage(logs, antilogs, d, y, w, z, &tape[drawn..], output)
 }
 
 // Power 254 of the shares of a byte, in place. Answers with how many bytes were drawn. The tape's slice is copied before anything is written: the
@@ -136,5 +121,5 @@ pub fn power_core(logs: &Logs, antilogs: &Antilogs, d: usize, tape: &[u8], x: &m
     let z = &mut squares[0..n];
     let y = &mut cubes[0..n];
     let drawn = first_stage(logs, antilogs, d, x, t, z, y);
-    drawn + later_stages(logs, antilogs, d, z, &t[drawn..], y, x)
+    drawn + later_stages(logs, antilogs, d, z, y, &t[drawn..], x)
 }

@@ -25,10 +25,11 @@ fn as_single(
     output: &[u8],
     taken: usize,
 ) -> Came {
-    let mut whole = io::buffer();
+    let mut room = io::buffer();
     let n = in_shares(order, 16);
-    let single = answers::of(aes::encrypt(order, key, input, tape, &mut whole[0..n]));
-    if text::same(output, &whole[0..n]) && single.number == taken {
+    let whole = &mut room[0..n];
+    let single = answers::of(aes::encrypt(order, key, input, tape, whole));
+    if text::same(output, whole) && single.number == taken {
         return single;
     }
     Came {
@@ -49,11 +50,12 @@ fn expanded(order: usize, length: usize) -> usize
 
 // Encryption from prepared keys, on the tape that the preparation left.
 fn prepared(order: usize, key: &[u8], input: &[u8], tape: &[u8], output: &mut [u8]) -> Came {
-    let mut keys = io::buffer();
+    let mut room = io::buffer();
     let n = expanded(order, key.len());
-    let first = answers::of(aes::prepare(order, key, tape, &mut keys[0..n]));
+    let keys = &mut room[0..n];
+    let first = answers::of(aes::prepare(order, key, tape, keys));
     let rest = answers::rest(tape, first);
-    let second = answers::of(aes::encrypt_prepared(order, &keys[0..n], input, rest, output));
+    let second = answers::of(aes::encrypt_prepared(order, keys, input, rest, output));
     if !second.served {
         return second;
     }
@@ -63,11 +65,12 @@ fn prepared(order: usize, key: &[u8], input: &[u8], tape: &[u8], output: &mut [u
 
 // An encryption, and the decryption of its shares on the tape that it left.
 fn trip(order: usize, key: &[u8], input: &[u8], tape: &[u8], output: &mut [u8]) -> Came {
-    let mut ciphers = io::buffer();
+    let mut room = io::buffer();
     let n = in_shares(order, 16);
-    let first = answers::of(aes::encrypt(order, key, input, tape, &mut ciphers[0..n]));
+    let ciphers = &mut room[0..n];
+    let first = answers::of(aes::encrypt(order, key, input, tape, ciphers));
     let rest = answers::rest(tape, first);
-    let second = answers::of(aes::decrypt(order, key, &ciphers[0..n], rest, output));
+    let second = answers::of(aes::decrypt(order, key, ciphers, rest, output));
     if !second.served {
         return second;
     }

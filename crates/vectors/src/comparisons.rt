@@ -50,10 +50,11 @@ fn come(kind: Kind, line: &[u8], output: &mut [u8]) -> Came {
 // The output is as long as what is wanted.
 fn compare(kind: Kind, line: &[u8], t: Tally) -> Tally {
     let mut wanted = io::buffer();
-    let mut output = io::buffer();
+    let mut room = io::buffer();
     let n = lines::bytes(line, 6, &mut wanted);
-    let c = come(kind, line, &mut output[0..n]);
-    shown(line, &wanted[0..n], &output[0..n], c, t)
+    let output = &mut room[0..n];
+    let c = come(kind, line, output);
+    shown(line, &wanted[0..n], output, c, t)
 }
 
 pub fn compare_line(line: &[u8], t: Tally) -> Tally {

@@ -20,11 +20,12 @@ fn add(parts: &[u8], sum: &mut [u8]) {
 
 // All round keys of a key in shares, joined. The output is as long as they are.
 fn expand(order: usize, key: &[u8], tape: &[u8], output: &mut [u8]) -> Came {
-    let mut keys = io::buffer();
+    let mut room = io::buffer();
     let n = routes::in_shares(order, output.len());
-    let came = answers::of(aes::prepare(order, key, tape, &mut keys[0..n]));
+    let keys = &mut room[0..n];
+    let came = answers::of(aes::prepare(order, key, tape, keys));
     tapes::fill(0, output);
-    add(&keys[0..n], output);
+    add(keys, output);
     came
 }
 
@@ -49,10 +50,11 @@ fn joined(
     tape: &[u8],
     output: &mut [u8],
 ) -> Came {
-    let mut outputs = io::buffer();
+    let mut room = io::buffer();
     let n = routes::in_shares(order, 16);
-    let came = routes::run(kind, order, key, input, tape, &mut outputs[0..n]);
-    let last = answers::of(shares::join(order, &outputs[0..n], output));
+    let outputs = &mut room[0..n];
+    let came = routes::run(kind, order, key, input, tape, outputs);
+    let last = answers::of(shares::join(order, outputs, output));
     if last.served {
         return came;
     }

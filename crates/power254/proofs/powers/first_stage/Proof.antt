@@ -2,14 +2,14 @@
 use mathlib.Core.Path.{refl, ap₂}
 use Prim.Native.Nat.{_+_}
 use borrow.Author.Needs.{needs}
-use Rattle.power254.specs.Power254.{stage-y, stage-need}
+use Rattle.power254.specs.Power254.{stage-z, stage-y, stage-need}
 use Rattle.power254.proofs.StageLaws.{product-after}
 use Rattle.power254.proofs.powers.first_stage.Statement.{statement}
 use Rattle.power254.proofs.powers.first_stage.Tie as tie
 
-make-z-requires : tie.Need-make-z-requires
+raise-refreshed-requires : tie.Need-raise-refreshed-requires
 unfolding stage-need
-make-z-requires c κs = search needs
+raise-refreshed-requires c κs = search needs
 
 sub-product-core : tie.Need-sub-product-core
 unfolding stage-need
@@ -38,11 +38,11 @@ same-length-2 : tie.Need-same-length-2
 same-length-2 c = search needs
 
 returns : tie.Need-returns
-unfolding stage-need stage-y
+unfolding stage-need stage-z stage-y
 returns c =
     let second = c .before .before in
     let first = second .before .before .before .before .before .before in
-    let m = first .make-z .ensures in
+    let m = first .raise-refreshed .ensures in
     let p = second .product-core .ensures in
     (ap₂ _+_ (m .0) (p .0), m .1, product-after _ _ _ _ _ _ _ _ _ (m .0) (m .1) refl (p .1))
 
@@ -50,7 +50,7 @@ pub first-stage-spec : {M : Type 1} → statement M
 first-stage-spec =
     tie.close
     (tie.spec
-    make-z-requires
+    raise-refreshed-requires
     sub-product-core
     part-product-core-start
     part-product-core-end
