@@ -6,6 +6,7 @@ mod counts;
 mod products;
 mod runs;
 mod tapes;
+mod values;
 
 use crate::counts::Tally;
 use vector_lines::lines;

@@ -1,10 +1,10 @@
 // Document 01's small values that no theorem covers: which calls are served, and which are refused under what number. Document 02, wish 2, has
 // decryption answer like encryption.
-use crate::routes;
 use vector_lines::answers;
 use vector_lines::answers::Came;
 use vector_lines::forms;
 use vector_lines::lines;
+use vector_routes::routes;
 
 // As many of the zeros as word k of a line says, at most all.
 fn front<'a>(line: &[u8], k: usize, zeros: &'a [u8]) -> &'a [u8] {
