@@ -1,7 +1,7 @@
 // Commands that call a routine: ORDER, one or two inputs, and a tape are read in turn, and the first that cannot be read ends the run.
 use crate::reading;
-use crate::routines;
 use crate::sheet;
+use command_calls::routines;
 use command_line::arguments;
 use command_line::commands::Command;
 

@@ -8,7 +8,6 @@ mod help;
 mod layout;
 mod places;
 mod reading;
-mod routines;
 mod sheet;
 
 use command_line::commands;

@@ -1,2 +1,2 @@
-// Calls of the library that a line asks for: a block in shares by one of the routes.
+// Calls of the library that a line of `vectors` asks for: a block in shares by one of the routes.
 pub mod routes;

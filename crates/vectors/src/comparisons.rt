@@ -1,15 +1,15 @@
 // A line is run, and what came is compared with what it wants.
-use crate::counts;
-use crate::counts::Tally;
 use crate::runs;
-use crate::tapes;
 use crate::values;
 use text::hexadecimal;
 use vector_lines::answers;
 use vector_lines::answers::Came;
+use vector_lines::counts;
+use vector_lines::counts::Tally;
 use vector_lines::forms;
 use vector_lines::forms::Kind;
 use vector_lines::lines;
+use vector_lines::tapes;
 
 // An output; of round keys the last one.
 fn print_output(output: &[u8]) {

@@ -2,13 +2,12 @@
 // FIPS 197, and what an unrelated AES made; and the field's two products on all bytes. Each line of standard input, which make-stdin makes, is one
 // run and what is wanted of it (forms.rt of vector_lines). A line of output is that line with what came in the place of what is wanted.
 mod comparisons;
-mod counts;
 mod products;
 mod runs;
-mod tapes;
 mod values;
 
-use crate::counts::Tally;
+use vector_lines::counts;
+use vector_lines::counts::Tally;
 use vector_lines::lines;
 
 // All lines in turn.

@@ -1,9 +1,9 @@
 // The field's two products on all bytes: by logs and antilogs, as the masked routines multiply, and by shifts from the top bit.
 ghost use Rattle.gf256.specs.Tables.{Tables};
-use crate::counts;
-use crate::counts::Tally;
 use gf256::Antilogs;
 use gf256::Logs;
+use vector_lines::counts;
+use vector_lines::counts::Tally;
 
 // For how many of the 65,536 pairs of bytes the two differ.
 fn count_different(logs: &Logs, antilogs: &Antilogs) -> u64

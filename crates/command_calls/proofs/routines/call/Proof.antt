@@ -1,4 +1,4 @@
--- `dokkumel::routines::call` meets its contract. Assumes nothing.
+-- `command_calls::routines::call` meets its contract. Assumes nothing.
 use mathlib.Core.Path.{_≡_, refl, sym, ap, _∙_}
 use Prim.Native.Nat.{ℕ}
 use borrow.Author.Needs.{needs}
@@ -11,9 +11,9 @@ use Rattle.command_line.specs.declared.commands.Command.{Command}
 use Rattle.command_line.specs.declared.commands.Command.the-variants.{Encrypt, Decrypt, Prepare, EncryptPrepared, Split, Join, Refresh, Product}
 use Rattle.command_line.specs.declared.commands.Command.the-variants.{Sbox, Read, Sheet, Places, Tape, Preview, Help, Unknown}
 use Rattle.command_line.proofs.commands.Command.{the-type}
-use Rattle.dokkumel.specs.Called.{called}
-use Rattle.dokkumel.proofs.routines.call.Statement.{statement}
-use Rattle.dokkumel.proofs.routines.call.Tie as tie
+use Rattle.command_calls.specs.Called.{called}
+use Rattle.command_calls.proofs.routines.call.Statement.{statement}
+use Rattle.command_calls.proofs.routines.call.Tie as tie
 
 -- the numbers of the commands that call no routine of this form
 abbrev rest : List ℕ

@@ -1,11 +1,11 @@
--- `vectors::tapes::fill` meets its contract. Assumes nothing.
+-- `vector_lines::tapes::fill` meets its contract. Assumes nothing.
 use mathlib.Core.Path.{_≡_, refl}
 use Prim.Native.Nat.{_≤_, _-_}
 use native.Mathlib.Omega.{arith}
 use lib.ListN.{length, length-set}
 use borrow.Author.Needs.{needs}
-use Rattle.vectors.proofs.tapes.fill.Statement.{statement}
-use Rattle.vectors.proofs.tapes.fill.Tie as tie
+use Rattle.vector_lines.proofs.tapes.fill.Statement.{statement}
+use Rattle.vector_lines.proofs.tapes.fill.Tie as tie
 
 abbrev Inv-loop : tie.InvT-loop
 Inv-loop number tape₀ x₀ mask k₀ k-end tape x k = (k ≤ k-end) × (k-end ≡ length tape₀) × (length tape ≡ length tape₀)

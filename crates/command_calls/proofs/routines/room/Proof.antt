@@ -1,10 +1,10 @@
--- `dokkumel::routines::room` meets its contract. Assumes nothing.
+-- `command_calls::routines::room` meets its contract. Assumes nothing.
 use Prim.Native.Nat.{_+_}
 use native.Mathlib.Omega.{arith}
 use borrow.Author.Needs.{needs}
 use Rattle.outcomes.proofs.LengthsLaws.{share-length-le}
-use Rattle.dokkumel.proofs.routines.room.Statement.{statement}
-use Rattle.dokkumel.proofs.routines.room.Tie as tie
+use Rattle.command_calls.proofs.routines.room.Statement.{statement}
+use Rattle.command_calls.proofs.routines.room.Tie as tie
 
 returns : tie.Need-returns
 returns c = search needs

@@ -1,10 +1,10 @@
--- `dokkumel::routines::in_shares` meets its contract. Assumes nothing.
+-- `command_calls::routines::in_shares` meets its contract. Assumes nothing.
 use Prim.Native.Nat.{ℕ, _*_, _≤_}
 use native.Mathlib.Nat.{mul-le-mul}
 use native.Mathlib.Omega.{arith}
 use borrow.Author.Needs.{needs}
-use Rattle.dokkumel.proofs.routines.in_shares.Statement.{statement}
-use Rattle.dokkumel.proofs.routines.in_shares.Tie as tie
+use Rattle.command_calls.proofs.routines.in_shares.Statement.{statement}
+use Rattle.command_calls.proofs.routines.in_shares.Tie as tie
 
 -- at most nine shares of at most 32 bytes
 at-most : (n size : ℕ) → n ≤ 9 → size ≤ 32 → n * size ≤ 288

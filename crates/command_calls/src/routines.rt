@@ -2,7 +2,7 @@
 ghost use mathlib.Core.Path.{_≡_};
 ghost use Prim.Native.Nat.{_≤_};
 ghost use Rattle.outcomes.specs.Outcome.{outcome};
-ghost use Rattle.dokkumel.specs.Called.{called};
+ghost use Rattle.command_calls.specs.Called.{called};
 use command_line::commands::Command;
 use outcomes::Answer;
 use outcomes::Refusal;
