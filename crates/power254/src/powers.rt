@@ -9,7 +9,7 @@ ghost use Rattle.gf256.specs.Tables.{Tables};
 ghost use Rattle.isw.specs.Place as Place;
 ghost use Rattle.shares.specs.Refresh as Refresh;
 ghost use Rattle.power254.specs.Power254;
-ghost use Rattle.power254.specs.Fits.{last-need, cube-need, from-cube, from-square, Refreshed-fits, Last-fits, Cube-fits, Square-fits, Power-fits};
+ghost use Rattle.power254.specs.Fits.{Refreshed-fits, First-fits, Last-fits, Later-fits, Power-fits};
 use gf256::Antilogs;
 use gf256::Exponent;
 use gf256::Logs;
@@ -42,6 +42,24 @@ fn raise_refreshed(
     shares::refreshing::refresh_core(d, tape, z)
 }
 
+// The first stage: z = x², refreshed, and y = z·x. Answers with how many bytes were drawn.
+fn first_stage(
+    logs: &Logs,
+    antilogs: &Antilogs,
+    d: usize,
+    x: &[u8],
+    tape: &[u8],
+    z: &mut [u8],
+    y: &mut [u8],
+) -> usize
+    requires { ⌜ First-fits d (now x) (now tape) (now z) (now y) × Tables (now logs) (now antilogs) ⌝ }
+    ensures { λ r. ⌜ (r ≡ Power254.stage-need d) × (now (z .exit) ≡ Power254.stage-z d (now (x .entry)) (now (tape .entry)))
+        × (now (y .exit) ≡ Power254.stage-y d (now (x .entry)) (now (tape .entry))) ⌝ }
+{
+    let drawn = raise_refreshed(logs, antilogs, Exponent::Two, d, x, tape, z);
+    drawn + masking::product::product_core(logs, antilogs, d, z, x, &tape[drawn..], y)
+}
+
 // The last stage: v = y·w; v¹⁶ into the output; v¹⁶·w back into v; and that times z. Answers with how many bytes were drawn.
 fn last_stage(
     logs: &Logs,
@@ -54,7 +72,7 @@ fn last_stage(
     output: &mut [u8],
 ) -> usize
     requires { ⌜ Last-fits d (now y) (now w) (now z) (now tape) (now output) × Tables (now logs) (now antilogs) ⌝ }
-    ensures { λ r. ⌜ (r ≡ last-need d)
+    ensures { λ r. ⌜ (r ≡ Place.product-need d + (Place.product-need d + Place.product-need d))
         × (now (output .exit) ≡ Power254.stage-last d (Power254.masked-product d (now (y .entry)) (now (w .entry)) (now (tape .entry)))
         (now (w .entry)) (now (z .entry)) (drop (Place.product-need d) (now (tape .entry)))) ⌝ }
 {
@@ -68,8 +86,8 @@ fn last_stage(
     second + masking::product::product_core(logs, antilogs, d, v, z, &tape[second..], output)
 }
 
-// From y on: w = y⁴, refreshed, and the last stage. Answers with how many bytes were drawn.
-fn from_cube(
+// The second stage, w = y⁴, refreshed, and the last. Answers with how many bytes were drawn.
+fn later_stages(
     logs: &Logs,
     antilogs: &Antilogs,
     d: usize,
@@ -78,9 +96,10 @@ fn from_cube(
     tape: &[u8],
     output: &mut [u8],
 ) -> usize
-    requires { ⌜ Cube-fits d (now z) (now y) (now tape) (now output) × Tables (now logs) (now antilogs) ⌝ }
-    ensures { λ r. ⌜ (r ≡ cube-need d)
-        × (now (output .exit) ≡ from-cube d (now (z .entry)) (now (y .entry)) (now (tape .entry))) ⌝ }
+    requires { ⌜ Later-fits d (now z) (now y) (now tape) (now output) × Tables (now logs) (now antilogs) ⌝ }
+    ensures { λ r. ⌜ (r ≡ Refresh.refresh-need d + (Place.product-need d + (Place.product-need d + Place.product-need d)))
+        × (now (output .exit) ≡ Power254.stage-last d (Power254.stage-v d (now (y .entry)) (now (tape .entry)))
+        (Power254.stage-w d (now (y .entry)) (now (tape .entry))) (now (z .entry)) (drop (Power254.stage-need d) (now (tape .entry)))) ⌝ }
 {
     let mut room = [0u8; 9];
     let n = d + 1;
@@ -89,36 +108,18 @@ fn from_cube(
     drawn + last_stage(logs, antilogs, d, y, w, z, &tape[drawn..], output)
 }
 
-// From z on: y = z·x, and what follows, over x. Answers with how many bytes were drawn.
-fn from_square(
-    logs: &Logs,
-    antilogs: &Antilogs,
-    d: usize,
-    z: &[u8],
-    tape: &[u8],
-    x: &mut [u8],
-) -> usize
-    requires { ⌜ Square-fits d (now z) (now tape) (now x) × Tables (now logs) (now antilogs) ⌝ }
-    ensures { λ r. ⌜ (r ≡ Place.product-need d + cube-need d)
-        × (now (x .exit) ≡ from-square d (now (z .entry)) (now (x .entry)) (now (tape .entry))) ⌝ }
-{
-    let mut room = [0u8; 9];
-    let n = d + 1;
-    let y = &mut room[0..n];
-    let drawn = masking::product::product_core(logs, antilogs, d, z, x, tape, y);
-    drawn + from_cube(logs, antilogs, d, z, y, &tape[drawn..], x)
-}
-
-// Power 254 of the shares of a byte, in place: z = x², refreshed, and what follows. Answers with how many bytes were drawn. The tape's slice is
-// copied before anything is written: the compiler then hands it over in registers.
+// Power 254 of the shares of a byte, in place. Answers with how many bytes were drawn. The tape's slice is copied before anything is written: the
+// compiler then hands it over in registers.
 pub fn power_core(logs: &Logs, antilogs: &Antilogs, d: usize, tape: &[u8], x: &mut [u8]) -> usize
     requires { ⌜ Power-fits d (now x) (now tape) × Tables (now logs) (now antilogs) ⌝ }
     ensures { λ r. ⌜ (r ≡ Power254.power-need d) × (now (x .exit) ≡ Power254.power-254 d (now (x .entry)) (now (tape .entry))) ⌝ }
 {
-    let mut room = [0u8; 9];
+    let mut squares = [0u8; 9];
+    let mut cubes = [0u8; 9];
     let n = d + 1;
     let t = &tape[..];
-    let z = &mut room[0..n];
-    let drawn = raise_refreshed(logs, antilogs, Exponent::Two, d, x, t, z);
-    drawn + from_square(logs, antilogs, d, z, &t[drawn..], x)
+    let z = &mut squares[0..n];
+    let y = &mut cubes[0..n];
+    let drawn = first_stage(logs, antilogs, d, x, t, z, y);
+    drawn + later_stages(logs, antilogs, d, z, y, &t[drawn..], x)
 }

@@ -1,11 +1,11 @@
--- `power254::powers::from_cube` meets its contract. Assumes nothing.
+-- `power254::powers::later_stages` meets its contract. Assumes nothing.
 use mathlib.Core.Path.{ap₂}
 use Prim.Native.Nat.{_+_}
 use borrow.Author.Needs.{needs}
 use Rattle.power254.specs.Power254.{stage-w}
-use Rattle.power254.proofs.StageLaws.{from-cube-after}
-use Rattle.power254.proofs.powers.from_cube.Statement.{statement}
-use Rattle.power254.proofs.powers.from_cube.Tie as tie
+use Rattle.power254.proofs.StageLaws.{later-after}
+use Rattle.power254.proofs.powers.later_stages.Statement.{statement}
+use Rattle.power254.proofs.powers.later_stages.Tie as tie
 
 add-n : tie.Need-add-n
 add-n c = search needs
@@ -58,10 +58,10 @@ returns c =
     let raised = last .before .before .before .before .before .before in
     let p = raised .raise-refreshed .ensures in
     let q = last .last-stage .ensures in
-    (ap₂ _+_ (p .0) (q .0), from-cube-after _ _ _ _ _ _ _ (p .0) (p .1) (q .1))
+    (ap₂ _+_ (p .0) (q .0), later-after _ _ _ _ _ _ _ (p .0) (p .1) (q .1))
 
-pub from-cube-spec : {M : Type 1} → statement M
-from-cube-spec =
+pub later-stages-spec : {M : Type 1} → statement M
+later-stages-spec =
     tie.close
     (tie.spec
     add-n
