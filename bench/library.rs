@@ -8,7 +8,7 @@ extern "C" {
         key_len: usize,
         input: *const u8,
         input_len: usize,
-        tape: *const u8,
+        tape: *const u32,
         tape_len: usize,
         output: *mut u8,
         output_len: usize,
@@ -19,7 +19,7 @@ extern "C" {
         order: usize,
         key: *const u8,
         key_len: usize,
-        tape: *const u8,
+        tape: *const u32,
         tape_len: usize,
         output: *mut u8,
         output_len: usize,
@@ -33,7 +33,7 @@ extern "C" {
         prepared_len: usize,
         input: *const u8,
         input_len: usize,
-        tape: *const u8,
+        tape: *const u32,
         tape_len: usize,
         output: *mut u8,
         output_len: usize,
@@ -42,7 +42,7 @@ extern "C" {
 }
 
 /// An encryption by a single call.
-pub fn encrypt(order: usize, key: &[u8], input: &[u8], tape: &[u8], output: &mut [u8]) -> usize {
+pub fn encrypt(order: usize, key: &[u8], input: &[u8], tape: &[u32], output: &mut [u8]) -> usize {
     let mut taken = 0;
     // All buffers are live slices, and the library writes to output and taken only.
     let status = unsafe {
@@ -64,7 +64,7 @@ pub fn encrypt(order: usize, key: &[u8], input: &[u8], tape: &[u8], output: &mut
 }
 
 /// Round keys, prepared once.
-pub fn prepare(order: usize, key: &[u8], tape: &[u8], output: &mut [u8]) -> usize {
+pub fn prepare(order: usize, key: &[u8], tape: &[u32], output: &mut [u8]) -> usize {
     let mut taken = 0;
     // As in `encrypt`.
     let status = unsafe {
@@ -84,7 +84,7 @@ pub fn prepare(order: usize, key: &[u8], tape: &[u8], output: &mut [u8]) -> usiz
 }
 
 /// An encryption from prepared keys.
-pub fn encrypt_prepared(order: usize, prepared: &[u8], input: &[u8], tape: &[u8], output: &mut [u8]) -> usize {
+pub fn encrypt_prepared(order: usize, prepared: &[u8], input: &[u8], tape: &[u32], output: &mut [u8]) -> usize {
     let mut taken = 0;
     // As in `encrypt`.
     let status = unsafe {

@@ -21,12 +21,18 @@ fn noise(seed: u64, len: usize) -> Vec<u8> {
         .collect()
 }
 
+/// Words of tape for an encryption with a 16-byte key, whose 200 S-boxes draw a whole number of words.
+fn tape(order: usize) -> Vec<u32> {
+    let bytes = noise(3, 200 * (2 * order * order + 4 * order));
+    bytes.chunks_exact(4).map(|b| u32::from_le_bytes([b[0], b[1], b[2], b[3]])).collect()
+}
+
 const TURNS: usize = 9;
 
-type Encrypt = fn(usize, &[u8], &[u8], &[u8], &mut [u8]) -> usize;
+type Encrypt = fn(usize, &[u8], &[u8], &[u32], &mut [u8]) -> usize;
 
 /// Seconds for so many encryptions, each of the block before; and the last output.
-fn timed(encrypt: Encrypt, count: usize, order: usize, key: &[u8], block: &[u8], tape: &[u8]) -> (f64, Vec<u8>) {
+fn timed(encrypt: Encrypt, count: usize, order: usize, key: &[u8], block: &[u8], tape: &[u32]) -> (f64, Vec<u8>) {
     let mut input = block.to_vec();
     let mut output = vec![0; block.len()];
     let start = Instant::now();
@@ -41,7 +47,7 @@ fn timed(encrypt: Encrypt, count: usize, order: usize, key: &[u8], block: &[u8],
 fn compare(count: usize, order: usize) -> (f64, f64) {
     let n = order + 1;
     let (key, block) = (noise(1, 16 * n), noise(2, 16 * n));
-    let tape = noise(3, 200 * (2 * order * order + 4 * order));
+    let tape = tape(order);
     let (mut ours, mut theirs) = (f64::MAX, f64::MAX);
     for _ in 0..TURNS {
         let (a, x) = timed(library::encrypt, count, order, &key, &block, &tape);

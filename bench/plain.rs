@@ -49,13 +49,13 @@ fn affine(a: u8) -> u8 {
     r ^ 0x63
 }
 
-/// A tape that is read from its start, each byte once.
-struct Tape<'a> {
+/// Bytes that are drawn from their start on, each once.
+struct Drawn<'a> {
     bytes: &'a [u8],
     at: usize,
 }
 
-impl Tape<'_> {
+impl Drawn<'_> {
     fn draw(&mut self) -> u8 {
         let t = self.bytes[self.at];
         self.at += 1;
@@ -74,7 +74,7 @@ fn raise_all(n: usize, x: &mut Shares, half: usize) {
     }
 }
 
-fn refresh(n: usize, x: &mut Shares, tape: &mut Tape) {
+fn refresh(n: usize, x: &mut Shares, tape: &mut Drawn) {
     for i in 1..n {
         let t = tape.draw();
         x[0] ^= t;
@@ -82,7 +82,7 @@ fn refresh(n: usize, x: &mut Shares, tape: &mut Tape) {
     }
 }
 
-fn product(n: usize, a: &Shares, b: &Shares, tape: &mut Tape) -> Shares {
+fn product(n: usize, a: &Shares, b: &Shares, tape: &mut Drawn) -> Shares {
     let mut c = [0u8; MOST];
     for i in 0..n {
         c[i] = times(a[i], b[i]);
@@ -97,7 +97,7 @@ fn product(n: usize, a: &Shares, b: &Shares, tape: &mut Tape) -> Shares {
     c
 }
 
-fn s_box(n: usize, x: &Shares, tape: &mut Tape) -> Shares {
+fn s_box(n: usize, x: &Shares, tape: &mut Drawn) -> Shares {
     let mut z = *x;
     raise_all(n, &mut z, 1);
     refresh(n, &mut z, tape);
@@ -119,7 +119,7 @@ fn s_box(n: usize, x: &Shares, tape: &mut Tape) -> Shares {
 }
 
 /// The S-box of byte k of a string in n shares of l bytes.
-fn substitute(n: usize, l: usize, k: usize, s: &mut [u8], tape: &mut Tape) {
+fn substitute(n: usize, l: usize, k: usize, s: &mut [u8], tape: &mut Drawn) {
     let mut x = [0u8; MOST];
     for i in 0..n {
         x[i] = s[i * l + k];
@@ -127,6 +127,27 @@ fn substitute(n: usize, l: usize, k: usize, s: &mut [u8], tape: &mut Tape) {
     let y = s_box(n, &x, tape);
     for i in 0..n {
         s[i * l + k] = y[i];
+    }
+}
+
+/// A tape of words that are taken from its start on, each once.
+struct Tape<'a> {
+    words: &'a [u32],
+    at: usize,
+}
+
+/// The S-boxes of four bytes of such a string. They draw a whole number of words, which are unpacked together, each from its lowest byte on.
+fn substitute_four(n: usize, l: usize, four: [usize; 4], s: &mut [u8], tape: &mut Tape) {
+    let order = n - 1;
+    let words = 2 * order * order + 4 * order;
+    let mut bytes = [0u8; 640];
+    for k in 0..words {
+        bytes[4 * k..4 * k + 4].copy_from_slice(&tape.words[tape.at + k].to_le_bytes());
+    }
+    tape.at += words;
+    let mut drawn = Drawn { bytes: &bytes, at: 0 };
+    for k in four {
+        substitute(n, l, k, s, &mut drawn);
     }
 }
 
@@ -144,9 +165,7 @@ fn expand(n: usize, nk: usize, key: &[u8], tape: &mut Tape) -> Vec<u8> {
             t[i * 4..i * 4 + 4].copy_from_slice(&keys[i * m + 4 * (w - 1)..i * m + 4 * w]);
         }
         if w % nk == 0 || (nk > 6 && w % nk == 4) {
-            for k in 0..4 {
-                substitute(n, 4, k, &mut t[..4 * n], tape);
-            }
+            substitute_four(n, 4, [0, 1, 2, 3], &mut t[..4 * n], tape);
         }
         if w % nk == 0 {
             for i in 0..n {
@@ -190,19 +209,19 @@ fn mix_columns(s: &mut [u8]) {
     }
 }
 
-/// One block; all lengths fit. Answers with how many tape bytes were drawn.
-pub fn encrypt(order: usize, key: &[u8], input: &[u8], tape: &[u8], output: &mut [u8]) -> usize {
+/// One block; all lengths fit. Answers with how many words of tape were taken.
+pub fn encrypt(order: usize, key: &[u8], input: &[u8], tape: &[u32], output: &mut [u8]) -> usize {
     let n = order + 1;
     let nk = key.len() / n / 4;
     let nr = nk + 6;
     let m = 16 * (nr + 1);
-    let mut tape = Tape { bytes: tape, at: 0 };
+    let mut tape = Tape { words: tape, at: 0 };
     let keys = expand(n, nk, key, &mut tape);
     output.copy_from_slice(input);
     add_round_key(n, m, 0, &keys, output);
     for r in 1..=nr {
-        for k in 0..16 {
-            substitute(n, 16, k / 4 + 4 * (k % 4), output, &mut tape);
+        for row in 0..4 {
+            substitute_four(n, 16, [row, row + 4, row + 8, row + 12], output, &mut tape);
         }
         for share in output.chunks_exact_mut(16) {
             shift_rows(share);

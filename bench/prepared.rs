@@ -1,12 +1,12 @@
 //! A morning's work under one key: keys prepared once and then encryptions from them, against as many single calls.
 
-use crate::{library, noise, timed};
+use crate::{library, noise, tape, timed};
 use std::time::Instant;
 
 const COUNT: usize = 300;
 
 /// Seconds for the preparation and all encryptions, each of the block before, on the tape behind the preparation's; and the last output.
-fn prepared(order: usize, key: &[u8], block: &[u8], tape: &[u8]) -> (f64, Vec<u8>) {
+fn prepared(order: usize, key: &[u8], block: &[u8], tape: &[u32]) -> (f64, Vec<u8>) {
     let mut keys = vec![0; (order + 1) * 176];
     let start = Instant::now();
     let taken = library::prepare(order, key, tape, &mut keys);
@@ -19,7 +19,7 @@ fn prepared(order: usize, key: &[u8], block: &[u8], tape: &[u8]) -> (f64, Vec<u8
 fn compare(order: usize) -> (f64, f64) {
     let n = order + 1;
     let (key, block) = (noise(1, 16 * n), noise(2, 16 * n));
-    let tape = noise(3, 200 * (2 * order * order + 4 * order));
+    let tape = tape(order);
     let (mut once, mut anew) = (f64::MAX, f64::MAX);
     for _ in 0..15 {
         let (a, x) = prepared(order, &key, &block, &tape);

@@ -9,7 +9,7 @@
 
 #define ORDER 2
 
-/* Tape for the three calls that draw: two splits and an encryption. */
+/* Words of tape for the three calls that draw: two splits and an encryption. */
 #define TAPE (2 * DOKKUMEL_SPLIT_TAPE(ORDER, 16) + DOKKUMEL_ENCRYPT_TAPE(ORDER, 16))
 
 /*
@@ -29,7 +29,7 @@ static const uint8_t block[16] = {
 	0x00, 0x11, 0x22, 0x33, 0x44, 0x55, 0x66, 0x77, 0x88, 0x99, 0xaa, 0xbb, 0xcc, 0xdd, 0xee, 0xff,
 };
 
-static uint8_t tape[TAPE];
+static uint32_t tape[TAPE];
 static uint8_t key_shares[DOKKUMEL_SHARED(ORDER, 16)];
 static uint8_t block_shares[DOKKUMEL_SHARED(ORDER, 16)];
 static uint8_t output[DOKKUMEL_SHARED(ORDER, 16)];
@@ -39,11 +39,11 @@ static uint8_t ciphertext[16];
 static int read_tape(void)
 {
 	FILE *f = fopen("/dev/urandom", "rb");
-	size_t got = f == NULL ? 0 : fread(tape, 1, sizeof tape, f);
+	size_t got = f == NULL ? 0 : fread(tape, sizeof tape[0], TAPE, f);
 
 	if (f != NULL)
 		fclose(f);
-	return got == sizeof tape;
+	return got == TAPE;
 }
 
 int main(void)
@@ -55,18 +55,18 @@ int main(void)
 	if (!read_tape())
 		return 1;
 
-	status = dokkumel_split(ORDER, key, sizeof key, tape + at, sizeof tape - at, key_shares, sizeof key_shares, &taken);
+	status = dokkumel_split(ORDER, key, sizeof key, tape + at, TAPE - at, key_shares, sizeof key_shares, &taken);
 	if (refused("split", status))
 		return 1;
-	at += taken; /* no byte of tape serves twice */
+	at += taken; /* no word of tape serves twice */
 
-	status = dokkumel_split(ORDER, block, sizeof block, tape + at, sizeof tape - at, block_shares, sizeof block_shares, &taken);
+	status = dokkumel_split(ORDER, block, sizeof block, tape + at, TAPE - at, block_shares, sizeof block_shares, &taken);
 	if (refused("split", status))
 		return 1;
 	at += taken;
 
 	status = dokkumel_encrypt(ORDER, key_shares, sizeof key_shares, block_shares, sizeof block_shares,
-		tape + at, sizeof tape - at, output, sizeof output, &taken);
+		tape + at, TAPE - at, output, sizeof output, &taken);
 	if (refused("encrypt", status))
 		return 1;
 	at += taken;
@@ -77,6 +77,6 @@ int main(void)
 
 	for (size_t k = 0; k < sizeof ciphertext; k++)
 		printf("%02x", ciphertext[k]);
-	printf("\ntape: %zu of %zu bytes taken\n", at, sizeof tape);
+	printf("\ntape: %zu of %d words taken\n", at, TAPE);
 	return 0;
 }

@@ -11,7 +11,7 @@ extern "C" {
         order: usize,
         input: *const u8,
         input_len: usize,
-        tape: *const u8,
+        tape: *const u32,
         tape_len: usize,
         output: *mut u8,
         output_len: usize,
@@ -31,7 +31,7 @@ extern "C" {
         key_len: usize,
         input: *const u8,
         input_len: usize,
-        tape: *const u8,
+        tape: *const u32,
         tape_len: usize,
         output: *mut u8,
         output_len: usize,
@@ -44,7 +44,7 @@ extern "C" {
 #[derive(Debug)]
 struct Refused(#[allow(dead_code)] u32);
 
-/// The tape bytes taken, or the refusal.
+/// The words of tape taken, or the refusal.
 fn answer(status: u32, taken: usize) -> Result<usize, Refused> {
     match status {
         0 => Ok(taken),
@@ -52,7 +52,7 @@ fn answer(status: u32, taken: usize) -> Result<usize, Refused> {
     }
 }
 
-fn split(order: usize, input: &[u8], tape: &[u8], output: &mut [u8]) -> Result<usize, Refused> {
+fn split(order: usize, input: &[u8], tape: &[u32], output: &mut [u8]) -> Result<usize, Refused> {
     let (i, t, o) = (input.as_ptr(), tape.as_ptr(), output.as_mut_ptr());
     let mut taken = 0;
     // Safety: the slices are live, output is lent to this call alone, and taken is a local.
@@ -83,7 +83,7 @@ fn encrypt(
     order: usize,
     key: &[u8],
     input: &[u8],
-    tape: &[u8],
+    tape: &[u32],
     output: &mut [u8],
 ) -> Result<usize, Refused> {
     let (k, i, t, o) = (
@@ -114,8 +114,8 @@ fn encrypt(
 const ORDER: usize = 2;
 const SHARES: usize = ORDER + 1;
 
-/// Two splits of 16 bytes, and an encryption with a 16-byte key: 200 S-boxes.
-const TAPE: usize = 2 * ORDER * 16 + 200 * (2 * ORDER * ORDER + 4 * ORDER);
+/// Words for two splits of 16 bytes, and for an encryption with a 16-byte key: 200 S-boxes. Both are whole words at every order.
+const TAPE: usize = 2 * (ORDER * 16 / 4) + 200 * (2 * ORDER * ORDER + 4 * ORDER) / 4;
 
 fn main() -> Result<(), Refused> {
     let key: [u8; 16] = core::array::from_fn(|k| k as u8);
@@ -124,12 +124,14 @@ fn main() -> Result<(), Refused> {
     let (mut output, mut ciphertext) = ([0; SHARES * 16], [0; 16]);
 
     // The tape must be random, secret and fresh: a module reads its own generator here.
-    let mut tape = [0; TAPE];
+    let mut random = [0; 4 * TAPE];
     File::open("/dev/urandom")
-        .and_then(|mut f| f.read_exact(&mut tape))
+        .and_then(|mut f| f.read_exact(&mut random))
         .expect("no random bytes");
+    let tape: [u32; TAPE] =
+        core::array::from_fn(|k| u32::from_le_bytes([0, 1, 2, 3].map(|byte| random[4 * k + byte])));
 
-    // `at` is where the unused tape starts: no byte of tape serves twice.
+    // `at` is where the unused tape starts: no word of tape serves twice.
     let mut at = 0;
     at += split(ORDER, &key, &tape[at..], &mut key_shares)?;
     at += split(ORDER, &block, &tape[at..], &mut block_shares)?;
@@ -139,6 +141,6 @@ fn main() -> Result<(), Refused> {
     for byte in ciphertext {
         print!("{byte:02x}");
     }
-    println!("\ntape: {at} of {TAPE} bytes taken");
+    println!("\ntape: {at} of {TAPE} words taken");
     Ok(())
 }

@@ -13,11 +13,14 @@
  * share 0, then all of share 1, and so on. A single byte in shares is the
  * case L = 1: n bytes, one for each share.
  *
- * TAPE. The library makes no random bytes. The caller lends a tape of fresh,
- * uniform, secret random bytes; it is read from its start, and each byte is
- * used once. A call may be lent more tape than it needs: the surplus has no
- * effect. *taken then says how many bytes were used, and the next call must
- * be lent the tape from there on. No byte of tape may serve two calls.
+ * TAPE. The library makes no random numbers. The caller lends a tape of fresh,
+ * uniform, secret random words of 32 bits; it is read from its first word on,
+ * each word from its lowest byte to its highest, and no byte is used twice.
+ * Bytes b0 b1 b2 b3 are drawn from b0 | b1 << 8 | b2 << 16 | b3 << 24. A call
+ * takes whole words: what is left of its last one is dropped. It may be lent
+ * more tape than it needs. Neither the surplus nor a dropped byte has any
+ * effect. *taken then says how many words were taken, and the next call must
+ * be lent the tape from there on. No word of tape may serve two calls.
  *
  * STATUS. Every routine but dokkumel_unused_tape() answers with a status:
  *
@@ -36,8 +39,8 @@
  * has an order of its own, told there.) A refused call leaves the whole output
  * and *taken as they were, and has used no tape.
  *
- * BUFFERS. A buffer is a pointer and a length, in bytes unless told otherwise.
- * For every call:
+ * BUFFERS. A buffer is a pointer and a length: of a tape in words, of a place
+ * list in numbers, of all others in bytes. For every call:
  *
  *  - No pointer is NULL, and each lends its whole length until the call
  *    returns. (Behind a length of 0 nothing is read or written; pass any
@@ -45,12 +48,12 @@
  *  - No two buffers of a call overlap, and *taken lies in none of them. There
  *    is no working in place.
  *  - Output and *taken hold some value beforehand. Set them to 0.
- *  - A place list is aligned as uint16_t is, taken as size_t is. Buffers of
- *    bytes need no alignment.
+ *  - A tape is aligned as uint32_t is, a place list as uint16_t, taken as
+ *    size_t. Buffers of bytes need no alignment.
  *
  * Lengths are tested, these four points are not: a caller that breaks one gets
  * no promise. Nothing else is asked of a caller: any order, any length and
- * any bytes get the answer told here.
+ * any contents get the answer told here.
  *
  * THREADS. There is no global state, no allocation and no system call. Calls
  * may run at the same time, if no buffer that one of them writes is used by
@@ -59,8 +62,9 @@
  * STACK. Nothing that a call leaves on the stack is wiped. After
  * dokkumel_encrypt() and dokkumel_decrypt() all shares of all round keys stand
  * there; after dokkumel_prepare() and dokkumel_encrypt_prepared() none of the
- * round keys, but shares of the bytes and words that were worked on last. At
- * most so many bytes are used, at any order:
+ * round keys, but shares of the bytes and words that were worked on last. The
+ * tape that was drawn last may stand there too: after dokkumel_split() that is
+ * all of it, shares 1 to d. At most so many bytes are used, at any order:
  *
  *   DOKKUMEL_STACK_SHARES    split, join, refresh, unused tape, previews
  *   DOKKUMEL_STACK_PRODUCT   the product
@@ -90,9 +94,9 @@ extern "C" {
  * under the same names; so this header refers to a function whose name
  * carries the version, and an archive of another version does not have it.
  */
-#define DOKKUMEL_VERSION          53
+#define DOKKUMEL_VERSION          60
 
-uint32_t dokkumel_version_53(void);
+uint32_t dokkumel_version_60(void);
 
 #if defined(__GNUC__)
 #if defined(__has_attribute)
@@ -101,7 +105,7 @@ __attribute__((retain))
 #endif
 #endif
 __attribute__((used))
-static uint32_t (*const dokkumel_linked_version)(void) = dokkumel_version_53;
+static uint32_t (*const dokkumel_linked_version)(void) = dokkumel_version_60;
 #endif
 
 #define DOKKUMEL_OK               0
@@ -137,23 +141,35 @@ static uint32_t (*const dokkumel_linked_version)(void) = dokkumel_version_53;
 #define DOKKUMEL_PREPARED(order, key_bytes) \
 	DOKKUMEL_SHARED(order, 16 * (DOKKUMEL_ROUNDS(key_bytes) + 1))
 
+/* Pairs of shares i < j in one product, which draws a byte for each. */
+#define DOKKUMEL_PAIRS(order) \
+	((order) * ((order) + 1) / 2)
+
 /* P(d), the number of places in one product. */
 #define DOKKUMEL_PLACES(order) \
-	(2 * DOKKUMEL_SHARES(order) + 5 * DOKKUMEL_PRODUCT_TAPE(order) \
+	(2 * DOKKUMEL_SHARES(order) + 5 * DOKKUMEL_PAIRS(order) \
 	+ DOKKUMEL_SHARES(order) * DOKKUMEL_SHARES(order))
 
-/* Tape bytes that a call takes. The product, its sheet and the reading of
+/* Bytes that one S-box draws. */
+#define DOKKUMEL_SBOX_BYTES(order) \
+	(2 * (order) * (order) + 4 * (order))
+
+/* Words that so many bytes are drawn from; of the last, some may be dropped. */
+#define DOKKUMEL_WORDS(bytes) \
+	(((bytes) + 3) / 4)
+
+/* Words of tape that a call takes. The product, its sheet and the reading of
    places take the same. DOKKUMEL_ENCRYPT_TAPE is a decryption's too. */
-#define DOKKUMEL_SPLIT_TAPE(order, bytes)  ((order) * (bytes))
-#define DOKKUMEL_REFRESH_TAPE(order)       (order)
-#define DOKKUMEL_PRODUCT_TAPE(order)       ((order) * ((order) + 1) / 2)
-#define DOKKUMEL_SBOX_TAPE(order)          (2 * (order) * (order) + 4 * (order))
+#define DOKKUMEL_SPLIT_TAPE(order, bytes)  DOKKUMEL_WORDS((order) * (bytes))
+#define DOKKUMEL_REFRESH_TAPE(order)       DOKKUMEL_WORDS(order)
+#define DOKKUMEL_PRODUCT_TAPE(order)       DOKKUMEL_WORDS(DOKKUMEL_PAIRS(order))
+#define DOKKUMEL_SBOX_TAPE(order)          DOKKUMEL_WORDS(DOKKUMEL_SBOX_BYTES(order))
 #define DOKKUMEL_ENCRYPT_TAPE(order, key_bytes) \
-	(DOKKUMEL_SBOXES(key_bytes) * DOKKUMEL_SBOX_TAPE(order))
+	DOKKUMEL_WORDS(DOKKUMEL_SBOXES(key_bytes) * DOKKUMEL_SBOX_BYTES(order))
 #define DOKKUMEL_PREPARE_TAPE(order, key_bytes) \
-	(DOKKUMEL_KEY_SBOXES(key_bytes) * DOKKUMEL_SBOX_TAPE(order))
+	DOKKUMEL_WORDS(DOKKUMEL_KEY_SBOXES(key_bytes) * DOKKUMEL_SBOX_BYTES(order))
 #define DOKKUMEL_ENCRYPT_PREPARED_TAPE(order, key_bytes) \
-	(DOKKUMEL_ROUND_SBOXES(key_bytes) * DOKKUMEL_SBOX_TAPE(order))
+	DOKKUMEL_WORDS(DOKKUMEL_ROUND_SBOXES(key_bytes) * DOKKUMEL_SBOX_BYTES(order))
 
 /* S-boxes of the key expansion, of all rounds, and of a whole encryption or
    decryption. */
@@ -165,26 +181,26 @@ static uint32_t (*const dokkumel_linked_version)(void) = dokkumel_version_53;
 	(DOKKUMEL_KEY_SBOXES(key_bytes) + DOKKUMEL_ROUND_SBOXES(key_bytes))
 
 /* Stack that a call uses at most, in bytes. */
-#define DOKKUMEL_STACK_SHARES     256
+#define DOKKUMEL_STACK_SHARES     512
 #define DOKKUMEL_STACK_PRODUCT    2560
 #define DOKKUMEL_STACK_SHEET      3072
 #define DOKKUMEL_STACK_SBOX       2816
-#define DOKKUMEL_STACK_ENCRYPT    5632
-#define DOKKUMEL_STACK_PREPARE    3072
+#define DOKKUMEL_STACK_ENCRYPT    6144
+#define DOKKUMEL_STACK_PREPARE    3584
 
 /*
  * Split a string into shares. Shares 1 to d are tape bytes, in turn; share 0
  * is the input XOR all of them.
  *
  *   input    16, 24 or 32 bytes = L
- *   tape     takes d * L
+ *   tape     takes DOKKUMEL_SPLIT_TAPE(order, L), for d * L bytes
  *   output   n * L bytes
  *
  * Refusals: 1, 3, 4, 5.
  */
 uint32_t dokkumel_split(size_t order,
 	const uint8_t *input, size_t input_len,
-	const uint8_t *tape, size_t tape_len,
+	const uint32_t *tape, size_t tape_len,
 	uint8_t *output, size_t output_len,
 	size_t *taken);
 
@@ -205,14 +221,14 @@ uint32_t dokkumel_join(size_t order,
  * Mask refresh: new shares of the same byte.
  *
  *   input    n bytes
- *   tape     takes d
+ *   tape     takes DOKKUMEL_REFRESH_TAPE(order), for d bytes
  *   output   n bytes
  *
  * Refusals: 1, 3, 4, 5.
  */
 uint32_t dokkumel_refresh(size_t order,
 	const uint8_t *input, size_t input_len,
-	const uint8_t *tape, size_t tape_len,
+	const uint32_t *tape, size_t tape_len,
 	uint8_t *output, size_t output_len,
 	size_t *taken);
 
@@ -223,7 +239,7 @@ uint32_t dokkumel_refresh(size_t order,
  *
  *   left     n bytes
  *   right    n bytes
- *   tape     takes d * (d + 1) / 2
+ *   tape     takes DOKKUMEL_PRODUCT_TAPE(order), for d * (d + 1) / 2 bytes
  *   output   n bytes
  *
  * Refusals: 1, 3, 4, 5.
@@ -231,7 +247,7 @@ uint32_t dokkumel_refresh(size_t order,
 uint32_t dokkumel_product(size_t order,
 	const uint8_t *left, size_t left_len,
 	const uint8_t *right, size_t right_len,
-	const uint8_t *tape, size_t tape_len,
+	const uint32_t *tape, size_t tape_len,
 	uint8_t *output, size_t output_len,
 	size_t *taken);
 
@@ -256,7 +272,7 @@ uint32_t dokkumel_product(size_t order,
 uint32_t dokkumel_product_sheet(size_t order,
 	const uint8_t *left, size_t left_len,
 	const uint8_t *right, size_t right_len,
-	const uint8_t *tape, size_t tape_len,
+	const uint32_t *tape, size_t tape_len,
 	uint8_t *output, size_t output_len,
 	size_t *taken);
 
@@ -274,7 +290,7 @@ uint32_t dokkumel_product_sheet(size_t order,
 uint32_t dokkumel_read_places(size_t order,
 	const uint8_t *left, size_t left_len,
 	const uint8_t *right, size_t right_len,
-	const uint8_t *tape, size_t tape_len,
+	const uint32_t *tape, size_t tape_len,
 	const uint16_t *list, size_t list_len,
 	uint8_t *output, size_t output_len,
 	size_t *taken);
@@ -283,14 +299,14 @@ uint32_t dokkumel_read_places(size_t order,
  * Masked S-box of AES, on one byte in shares.
  *
  *   input    n bytes
- *   tape     takes 2 * d * d + 4 * d
+ *   tape     takes DOKKUMEL_SBOX_TAPE(order), for 2 * d * d + 4 * d bytes
  *   output   n bytes
  *
  * Refusals: 1, 3, 4, 5.
  */
 uint32_t dokkumel_sbox(size_t order,
 	const uint8_t *input, size_t input_len,
-	const uint8_t *tape, size_t tape_len,
+	const uint32_t *tape, size_t tape_len,
 	uint8_t *output, size_t output_len,
 	size_t *taken);
 
@@ -309,7 +325,7 @@ uint32_t dokkumel_sbox(size_t order,
 uint32_t dokkumel_encrypt(size_t order,
 	const uint8_t *key, size_t key_len,
 	const uint8_t *input, size_t input_len,
-	const uint8_t *tape, size_t tape_len,
+	const uint32_t *tape, size_t tape_len,
 	uint8_t *output, size_t output_len,
 	size_t *taken);
 
@@ -332,7 +348,7 @@ uint32_t dokkumel_encrypt(size_t order,
 uint32_t dokkumel_decrypt(size_t order,
 	const uint8_t *key, size_t key_len,
 	const uint8_t *input, size_t input_len,
-	const uint8_t *tape, size_t tape_len,
+	const uint32_t *tape, size_t tape_len,
 	uint8_t *output, size_t output_len,
 	size_t *taken);
 
@@ -354,7 +370,7 @@ uint32_t dokkumel_decrypt(size_t order,
  */
 uint32_t dokkumel_prepare(size_t order,
 	const uint8_t *key, size_t key_len,
-	const uint8_t *tape, size_t tape_len,
+	const uint32_t *tape, size_t tape_len,
 	uint8_t *output, size_t output_len,
 	size_t *taken);
 
@@ -380,7 +396,7 @@ uint32_t dokkumel_prepare(size_t order,
 uint32_t dokkumel_encrypt_prepared(size_t order,
 	const uint8_t *prepared, size_t prepared_len,
 	const uint8_t *input, size_t input_len,
-	const uint8_t *tape, size_t tape_len,
+	const uint32_t *tape, size_t tape_len,
 	uint8_t *output, size_t output_len,
 	size_t *taken);
 
@@ -389,9 +405,9 @@ uint32_t dokkumel_encrypt_prepared(size_t order,
  * of its buffers alone, before any of them is there. Status and *taken come
  * out as dokkumel_encrypt(), dokkumel_decrypt(), dokkumel_prepare() or
  * dokkumel_encrypt_prepared() would leave them on buffers of these lengths,
- * whatever bytes those hold: 0, with the tape bytes that the call would take,
- * or its refusal, and *taken stays as it was. Nothing is read but the
- * numbers, and nothing is written but *taken.
+ * whatever those hold: 0, with the words of tape that the call would take, or
+ * its refusal, and *taken stays as it was. Nothing is read but the numbers,
+ * and nothing is written but *taken.
  *
  * Any lengths may be asked about. With SIZE_MAX for tape_len, *taken tells how
  * much tape must be drawn for a call whose other lengths fit.
@@ -415,11 +431,11 @@ uint32_t dokkumel_preview_encrypt_prepared(size_t order,
 	size_t *taken);
 
 /*
- * Where the unused tape starts, after count bytes were taken: at count, or at
+ * Where the unused tape starts, after count words were taken: at count, or at
  * tape_len if count exceeds it. The unused tape is tape + answer, and has
- * tape_len - answer bytes. It refuses nothing.
+ * tape_len - answer words. It refuses nothing.
  */
-size_t dokkumel_unused_tape(const uint8_t *tape, size_t tape_len,
+size_t dokkumel_unused_tape(const uint32_t *tape, size_t tape_len,
 	size_t count);
 
 #ifdef __cplusplus

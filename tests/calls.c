@@ -1,12 +1,12 @@
 #include "calls.h"
 
-#include "dokkumel.h"
+#include "dropped.h"
 #include "foretold.h"
 #include "guarded.h"
 #include "joined.h"
+#include "made.h"
 #include "plan.h"
 #include "routes.h"
-#include "second.h"
 #include "table.h"
 
 #include <inttypes.h>
@@ -15,31 +15,6 @@
 #include <string.h>
 
 static const char *const buffer_names[BUFFERS] = { "key", "input", "right", "tape", "list", "output", "taken" };
-
-/* The same call for the library and for the second implementation: p has the buffers. */
-#define B(b)    p[b], c->len[b]
-#define TOOK    (size_t *)(void *)p[TAKEN]
-#define PLACES  (const uint16_t *)(void *)p[LIST], c->len[LIST]
-#define MAKE(name, by)                                                                                            \
-	static uint32_t name(const struct plan *c, uint8_t *const p[BUFFERS])                                     \
-	{                                                                                                         \
-		switch (c->routine) {                                                                             \
-		case SPLIT: return by##_split(c->order, B(INPUT), B(TAPE), B(OUTPUT), TOOK);                      \
-		case JOIN: return by##_join(c->order, B(INPUT), B(OUTPUT), TOOK);                                 \
-		case REFRESH: return by##_refresh(c->order, B(INPUT), B(TAPE), B(OUTPUT), TOOK);                  \
-		case PRODUCT: return by##_product(c->order, B(INPUT), B(RIGHT), B(TAPE), B(OUTPUT), TOOK);        \
-		case SHEET: return by##_product_sheet(c->order, B(INPUT), B(RIGHT), B(TAPE), B(OUTPUT), TOOK);    \
-		case READ: return by##_read_places(c->order, B(INPUT), B(RIGHT), B(TAPE), PLACES, B(OUTPUT), TOOK); \
-		case SBOX: return by##_sbox(c->order, B(INPUT), B(TAPE), B(OUTPUT), TOOK);                        \
-		case ENCRYPT: return by##_encrypt(c->order, B(KEY), B(INPUT), B(TAPE), B(OUTPUT), TOOK);          \
-		case DECRYPT: return by##_decrypt(c->order, B(KEY), B(INPUT), B(TAPE), B(OUTPUT), TOOK);          \
-		case PREPARE: return by##_prepare(c->order, B(KEY), B(TAPE), B(OUTPUT), TOOK);                    \
-		case ENCRYPT_PREPARED: return by##_encrypt_prepared(c->order, B(KEY), B(INPUT), B(TAPE), B(OUTPUT), TOOK); \
-		default: *TOOK = by##_unused_tape(B(TAPE), c->count); return 0;                                   \
-		}                                                                                                 \
-	}
-MAKE(by_library, dokkumel)
-MAKE(by_second, second)
 
 static uint64_t the_seed;
 static unsigned long the_call;
@@ -101,8 +76,8 @@ static void compare(const struct plan *c, struct guarded *g)
 		lent[b] = g[b].lent;
 		second[b] = g[b].second;
 	}
-	status = by_library(c, lent);
-	wanted = by_second(c, second);
+	status = made_by_library(c, lent);
+	wanted = made_by_second(c, second);
 	if (status != wanted) {
 		fail_at(c);
 		printf("status is %" PRIu32 ", the second's %" PRIu32 "\n", status, wanted);
@@ -114,6 +89,8 @@ static void compare(const struct plan *c, struct guarded *g)
 		same(c, b, &g[b], g[b].lent, g[b].second, "the second's");
 	}
 	none(c, foretold_differs(c, g, status));
+	if (status == 0)
+		none(c, dropped_differs(c, g));
 	if (status == 0 && plan_key_bytes(c) != 0)
 		compare_joined(c, g);
 	table_count(c, status);
@@ -130,8 +107,8 @@ void calls_compare(uint64_t seed, unsigned long calls)
 
 		plan_make(&c, &n);
 		for (int b = 0; b < BUFFERS; b++)
-			guarded_make(&g[b], &n, b == LIST ? 2 * c.len[b] : c.len[b], b == LIST || b == TAKEN);
-		guarded_set(&g[LIST], 0, c.list, 2 * c.len[LIST]);
+			guarded_make(&g[b], &n, c.len[b], plan_units[b]);
+		guarded_set(&g[LIST], 0, c.list, g[LIST].len);
 		compare(&c, g);
 		for (int b = 0; b < BUFFERS; b++)
 			guarded_free(&g[b]);
@@ -145,7 +122,7 @@ void calls_try_guards(void)
 	struct noise n = { 1 };
 	struct guarded g;
 
-	guarded_make(&g, &n, 10, 0);
+	guarded_make(&g, &n, 10, 1);
 	for (ptrdiff_t i = -(ptrdiff_t)g.front; i < guarded_end(&g); i++) {
 		g.lent[i] ^= 1;
 		if (guarded_differ(&g, g.lent, g.before) != i) {

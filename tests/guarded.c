@@ -16,11 +16,10 @@ static uint8_t *copy_of(const uint8_t *bytes, size_t len)
 	return copy;
 }
 
-void guarded_make(struct guarded *g, struct noise *n, size_t len, int aligned)
+void guarded_make(struct guarded *g, struct noise *n, size_t entries, size_t unit)
 {
 	static uint8_t whole[1 << 17];
-	size_t front = aligned ? GUARD : GUARD + noise_below(n, 16);
-	size_t total = front + len + GUARD;
+	size_t front = GUARD + unit * noise_below(n, 16), len = unit * entries, total = front + len + GUARD;
 
 	if (total > sizeof whole) {
 		fputs("a buffer is longer than the test provides for\n", stderr);

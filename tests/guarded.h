@@ -16,11 +16,11 @@
 struct guarded {
 	uint8_t *lent, *second, *before; /* the buffers themselves, behind their front guards */
 	size_t front;                    /* bytes of front guard */
-	size_t len;
+	size_t len;                      /* in bytes */
 };
 
-/* Random bytes, aligned for any type if aligned is not 0; else anywhere. */
-void guarded_make(struct guarded *g, struct noise *n, size_t len, int aligned);
+/* Random entries of unit bytes each, which is 1, 2, 4 or 8. They stand at some multiple of unit: what else they are aligned to is left to chance. */
+void guarded_make(struct guarded *g, struct noise *n, size_t entries, size_t unit);
 void guarded_free(struct guarded *g);
 
 /* The bytes of one copy, set to the same in all three. */

@@ -9,7 +9,7 @@
 void known_is(int good, const char *what);
 
 /* Ends the program unless good answers 1 for example e at orders 1, 2, 3 and 8, each on several tapes. */
-void known_on_tapes(const char *name, size_t e, int (*good)(size_t e, size_t d, const uint8_t *tape, size_t tape_len));
+void known_on_tapes(const char *name, size_t e, int (*good)(size_t e, size_t d, const uint32_t *tape, size_t tape_len));
 
 /* FIPS 197's examples of encryption, by the single call, backwards, and from prepared keys. */
 void known_published(void);
@@ -23,13 +23,19 @@ void known_small(void);
 /* Blocks that are encrypted and decrypted, or the other way round: they come back. */
 void known_trips(uint64_t seed);
 
+/* The tape that each routine needs, in words. */
+void known_needs(void);
+
+/* The shares that were given when the tape was of bytes. */
+void known_before(void);
+
 /* The refusals of all calls that take a key, in their order and at every length. */
 void known_refusals(void);
 
 /* Previews of jobs whose lengths no buffer could have. */
 void known_previews(void);
 
-/* The header's macros: just so much is served, and a byte more or less refused. */
+/* The header's macros: just so much is served, and a word of tape less, or a byte more or less elsewhere, refused. */
 void known_macros(void);
 
 #endif

@@ -4,7 +4,7 @@
 
 #include "plan.h"
 
-/* Lengths that fit at order d, with strings of l bytes; the tape is as long as the call needs. A reading's list comes later. */
+/* Lengths that fit at order d, with strings of l bytes; the tape has as many words as the call needs. A reading's list comes later. */
 void lengths_fit(struct plan *p, size_t d, size_t l);
 
 /* The lengths that the plan's own order would ask for if its numbers wrapped, where these are small. */

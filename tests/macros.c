@@ -1,4 +1,4 @@
-/* The header's macros against the library: just so much is served, and one byte less, or one place more, is not. */
+/* The header's macros against the library: just so much is served, and one word of tape less, or one place more, is not. */
 #include "known.h"
 
 #include "block_call.h"
@@ -6,30 +6,37 @@
 
 #include <stdio.h>
 
-/* Document 01's tables, and document 02's numbers for prepared keys. */
+/* Document 01's tables, and document 02's numbers for prepared keys; tape in words. */
 _Static_assert(DOKKUMEL_PLACES(1) == 13 && DOKKUMEL_PLACES(2) == 30 && DOKKUMEL_PLACES(3) == 54, "P(1) to P(3)");
 _Static_assert(DOKKUMEL_PLACES(8) == 279, "P(8)");
-_Static_assert(DOKKUMEL_ENCRYPT_TAPE(1, 16) == 1200 && DOKKUMEL_ENCRYPT_TAPE(2, 16) == 3200, "16-byte keys");
-_Static_assert(DOKKUMEL_ENCRYPT_TAPE(1, 24) == 1344 && DOKKUMEL_ENCRYPT_TAPE(2, 24) == 3584, "24-byte keys");
-_Static_assert(DOKKUMEL_ENCRYPT_TAPE(1, 32) == 1656 && DOKKUMEL_ENCRYPT_TAPE(2, 32) == 4416, "32-byte keys");
-_Static_assert(DOKKUMEL_ENCRYPT_TAPE(8, 16) == 32000 && DOKKUMEL_ENCRYPT_TAPE(8, 24) == 35840, "order 8");
-_Static_assert(DOKKUMEL_ENCRYPT_TAPE(8, 32) == 44160, "order 8");
+_Static_assert(DOKKUMEL_ENCRYPT_TAPE(1, 16) == 300 && DOKKUMEL_ENCRYPT_TAPE(2, 16) == 800, "16-byte keys");
+_Static_assert(DOKKUMEL_ENCRYPT_TAPE(1, 24) == 336 && DOKKUMEL_ENCRYPT_TAPE(2, 24) == 896, "24-byte keys");
+_Static_assert(DOKKUMEL_ENCRYPT_TAPE(1, 32) == 414 && DOKKUMEL_ENCRYPT_TAPE(2, 32) == 1104, "32-byte keys");
+_Static_assert(DOKKUMEL_ENCRYPT_TAPE(8, 16) == 8000 && DOKKUMEL_ENCRYPT_TAPE(8, 24) == 8960, "order 8");
+_Static_assert(DOKKUMEL_ENCRYPT_TAPE(8, 32) == 11040, "order 8");
 _Static_assert(DOKKUMEL_ROUNDS(16) == 10 && DOKKUMEL_ROUNDS(24) == 12 && DOKKUMEL_ROUNDS(32) == 14, "rounds");
 _Static_assert(DOKKUMEL_KEY_SBOXES(16) == 40 && DOKKUMEL_KEY_SBOXES(24) == 32 && DOKKUMEL_KEY_SBOXES(32) == 52, "S-boxes");
 _Static_assert(DOKKUMEL_ROUND_SBOXES(16) == 160 && DOKKUMEL_ROUND_SBOXES(24) == 192 && DOKKUMEL_ROUND_SBOXES(32) == 224, "S-boxes");
 _Static_assert(DOKKUMEL_SBOXES(16) == 200 && DOKKUMEL_SBOXES(24) == 224 && DOKKUMEL_SBOXES(32) == 276, "S-boxes");
 _Static_assert(DOKKUMEL_PREPARED(1, 16) == 352 && DOKKUMEL_PREPARED(2, 24) == 624 && DOKKUMEL_PREPARED(8, 32) == 2160, "prepared keys");
-_Static_assert(DOKKUMEL_PREPARE_TAPE(1, 16) == 240 && DOKKUMEL_PREPARE_TAPE(2, 24) == 512, "preparing");
-_Static_assert(DOKKUMEL_PREPARE_TAPE(8, 32) == 8320 && DOKKUMEL_ENCRYPT_PREPARED_TAPE(8, 32) == 35840, "order 8");
-_Static_assert(DOKKUMEL_ENCRYPT_PREPARED_TAPE(1, 16) == 960 && DOKKUMEL_ENCRYPT_PREPARED_TAPE(2, 24) == 3072, "from prepared keys");
+_Static_assert(DOKKUMEL_PREPARE_TAPE(1, 16) == 60 && DOKKUMEL_PREPARE_TAPE(2, 24) == 128, "preparing");
+_Static_assert(DOKKUMEL_PREPARE_TAPE(8, 32) == 2080 && DOKKUMEL_ENCRYPT_PREPARED_TAPE(8, 32) == 8960, "order 8");
+_Static_assert(DOKKUMEL_ENCRYPT_PREPARED_TAPE(1, 16) == 240 && DOKKUMEL_ENCRYPT_PREPARED_TAPE(2, 24) == 768, "from prepared keys");
+/* Words that are used in part: one byte, a whole word, a byte more. */
+_Static_assert(DOKKUMEL_REFRESH_TAPE(1) == 1 && DOKKUMEL_REFRESH_TAPE(4) == 1 && DOKKUMEL_REFRESH_TAPE(5) == 2, "refresh");
+_Static_assert(DOKKUMEL_PRODUCT_TAPE(2) == 1 && DOKKUMEL_PRODUCT_TAPE(3) == 2 && DOKKUMEL_PRODUCT_TAPE(8) == 9, "product");
+_Static_assert(DOKKUMEL_SBOX_TAPE(1) == 2 && DOKKUMEL_SBOX_TAPE(2) == 4 && DOKKUMEL_SBOX_TAPE(3) == 8, "S-box");
+_Static_assert(DOKKUMEL_SPLIT_TAPE(1, 16) == 4 && DOKKUMEL_SPLIT_TAPE(8, 32) == 64, "split");
 /* An argument that is a sum. */
-_Static_assert(DOKKUMEL_ENCRYPT_TAPE(1 + 1, 8 + 8) == 3200 && DOKKUMEL_PLACES(1 + 2) == 54, "brackets");
-_Static_assert(DOKKUMEL_SHARED(1 + 1, 8 + 8) == 48 && DOKKUMEL_SPLIT_TAPE(1 + 1, 8 + 8) == 32, "brackets");
-_Static_assert(2 * DOKKUMEL_REFRESH_TAPE(1 + 1) == 4 && 2 * DOKKUMEL_PRODUCT_TAPE(1 + 1) == 6, "brackets");
+_Static_assert(DOKKUMEL_ENCRYPT_TAPE(1 + 1, 8 + 8) == 800 && DOKKUMEL_PLACES(1 + 2) == 54, "brackets");
+_Static_assert(DOKKUMEL_SHARED(1 + 1, 8 + 8) == 48 && DOKKUMEL_SPLIT_TAPE(1 + 1, 8 + 8) == 8, "brackets");
+_Static_assert(2 * DOKKUMEL_REFRESH_TAPE(4 + 1) == 4 && 2 * DOKKUMEL_PRODUCT_TAPE(2 + 1) == 4, "brackets");
+_Static_assert(2 * DOKKUMEL_SBOX_TAPE(1 + 2) == 16 && 2 * DOKKUMEL_WORDS(4 + 1) == 4, "brackets");
 _Static_assert(DOKKUMEL_PREPARED(1 + 1, 8 + 8) == 528 && 2 * DOKKUMEL_ROUNDS(8 + 8) == 20, "brackets");
-_Static_assert(DOKKUMEL_PREPARE_TAPE(1 + 1, 8 + 8) == 640 && DOKKUMEL_ENCRYPT_PREPARED_TAPE(1 + 1, 8 + 8) == 2560, "brackets");
+_Static_assert(DOKKUMEL_PREPARE_TAPE(1 + 1, 8 + 8) == 160 && DOKKUMEL_ENCRYPT_PREPARED_TAPE(1 + 1, 8 + 8) == 640, "brackets");
 
-static const uint8_t zeros[DOKKUMEL_ENCRYPT_TAPE(8, 32)];
+static const uint8_t zeros[DOKKUMEL_PREPARED(8, 32) + 1];
+static const uint32_t tape[DOKKUMEL_ENCRYPT_TAPE(8, 32)];
 static uint8_t out[DOKKUMEL_PREPARED(8, 32) + 1];
 
 static void is(int good, const char *name, size_t d, size_t bytes)
@@ -45,14 +52,14 @@ static void of_bytes(size_t d)
 	size_t n = DOKKUMEL_SHARES(d), need, taken = 0;
 
 	need = DOKKUMEL_REFRESH_TAPE(d);
-	is(dokkumel_refresh(d, zeros, n, zeros, need, out, n, &taken) == 0 && taken == need, "DOKKUMEL_REFRESH_TAPE", d, 1);
-	is(dokkumel_refresh(d, zeros, n, zeros, need - 1, out, n, &taken) == 5, "DOKKUMEL_REFRESH_TAPE", d, 1);
+	is(dokkumel_refresh(d, zeros, n, tape, need, out, n, &taken) == 0 && taken == need, "DOKKUMEL_REFRESH_TAPE", d, 1);
+	is(dokkumel_refresh(d, zeros, n, tape, need - 1, out, n, &taken) == 5, "DOKKUMEL_REFRESH_TAPE", d, 1);
 	need = DOKKUMEL_PRODUCT_TAPE(d);
-	is(dokkumel_product(d, zeros, n, zeros, n, zeros, need, out, n, &taken) == 0 && taken == need, "DOKKUMEL_PRODUCT_TAPE", d, 1);
-	is(dokkumel_product(d, zeros, n, zeros, n, zeros, need - 1, out, n, &taken) == 5, "DOKKUMEL_PRODUCT_TAPE", d, 1);
+	is(dokkumel_product(d, zeros, n, zeros, n, tape, need, out, n, &taken) == 0 && taken == need, "DOKKUMEL_PRODUCT_TAPE", d, 1);
+	is(dokkumel_product(d, zeros, n, zeros, n, tape, need - 1, out, n, &taken) == 5, "DOKKUMEL_PRODUCT_TAPE", d, 1);
 	need = DOKKUMEL_SBOX_TAPE(d);
-	is(dokkumel_sbox(d, zeros, n, zeros, need, out, n, &taken) == 0 && taken == need, "DOKKUMEL_SBOX_TAPE", d, 1);
-	is(dokkumel_sbox(d, zeros, n, zeros, need - 1, out, n, &taken) == 5, "DOKKUMEL_SBOX_TAPE", d, 1);
+	is(dokkumel_sbox(d, zeros, n, tape, need, out, n, &taken) == 0 && taken == need, "DOKKUMEL_SBOX_TAPE", d, 1);
+	is(dokkumel_sbox(d, zeros, n, tape, need - 1, out, n, &taken) == 5, "DOKKUMEL_SBOX_TAPE", d, 1);
 }
 
 static void of_places(size_t d)
@@ -60,18 +67,18 @@ static void of_places(size_t d)
 	size_t n = DOKKUMEL_SHARES(d), places = DOKKUMEL_PLACES(d), need = DOKKUMEL_PRODUCT_TAPE(d), taken = 0;
 	uint16_t last = (uint16_t)(places - 1), past = (uint16_t)places;
 
-	is(dokkumel_product_sheet(d, zeros, n, zeros, n, zeros, need, out, places, &taken) == 0, "DOKKUMEL_PLACES", d, 1);
-	is(dokkumel_product_sheet(d, zeros, n, zeros, n, zeros, need, out, places + 1, &taken) == 4, "DOKKUMEL_PLACES", d, 1);
-	is(dokkumel_read_places(d, zeros, n, zeros, n, zeros, need, &last, 1, out, 1, &taken) == 0, "DOKKUMEL_PLACES", d, 1);
-	is(dokkumel_read_places(d, zeros, n, zeros, n, zeros, need, &past, 1, out, 1, &taken) == 7, "DOKKUMEL_PLACES", d, 1);
+	is(dokkumel_product_sheet(d, zeros, n, zeros, n, tape, need, out, places, &taken) == 0, "DOKKUMEL_PLACES", d, 1);
+	is(dokkumel_product_sheet(d, zeros, n, zeros, n, tape, need, out, places + 1, &taken) == 4, "DOKKUMEL_PLACES", d, 1);
+	is(dokkumel_read_places(d, zeros, n, zeros, n, tape, need, &last, 1, out, 1, &taken) == 0, "DOKKUMEL_PLACES", d, 1);
+	is(dokkumel_read_places(d, zeros, n, zeros, n, tape, need, &past, 1, out, 1, &taken) == 7, "DOKKUMEL_PLACES", d, 1);
 }
 
 static void of_strings(size_t d, size_t l)
 {
 	size_t shared = DOKKUMEL_SHARED(d, l), need = DOKKUMEL_SPLIT_TAPE(d, l), taken = 0;
 
-	is(dokkumel_split(d, zeros, l, zeros, need, out, shared, &taken) == 0 && taken == need, "DOKKUMEL_SPLIT_TAPE", d, l);
-	is(dokkumel_split(d, zeros, l, zeros, need - 1, out, shared, &taken) == 5, "DOKKUMEL_SPLIT_TAPE", d, l);
+	is(dokkumel_split(d, zeros, l, tape, need, out, shared, &taken) == 0 && taken == need, "DOKKUMEL_SPLIT_TAPE", d, l);
+	is(dokkumel_split(d, zeros, l, tape, need - 1, out, shared, &taken) == 5, "DOKKUMEL_SPLIT_TAPE", d, l);
 	is(dokkumel_join(d, zeros, shared, out, l, &taken) == 0, "DOKKUMEL_SHARED", d, l);
 }
 
@@ -80,8 +87,8 @@ static void of_block(block_call *call, size_t key_len, size_t need, const char *
 {
 	size_t block = DOKKUMEL_SHARED(d, 16), taken = 0;
 
-	is(call(d, zeros, key_len, zeros, block, zeros, need, out, block, &taken) == 0 && taken == need, name, d, l);
-	is(call(d, zeros, key_len, zeros, block, zeros, need - 1, out, block, &taken) == 5, name, d, l);
+	is(call(d, zeros, key_len, zeros, block, tape, need, out, block, &taken) == 0 && taken == need, name, d, l);
+	is(call(d, zeros, key_len, zeros, block, tape, need - 1, out, block, &taken) == 5, name, d, l);
 }
 
 static void of_keys(size_t d, size_t l)
@@ -99,11 +106,11 @@ static void of_prepared(size_t d, size_t l)
 	size_t shared = DOKKUMEL_SHARED(d, l), prepared = DOKKUMEL_PREPARED(d, l), block = DOKKUMEL_SHARED(d, 16), taken = 0;
 	size_t need = DOKKUMEL_PREPARE_TAPE(d, l);
 
-	is(dokkumel_prepare(d, zeros, shared, zeros, need, out, prepared, &taken) == 0 && taken == need, "DOKKUMEL_PREPARE_TAPE", d, l);
-	is(dokkumel_prepare(d, zeros, shared, zeros, need - 1, out, prepared, &taken) == 5, "DOKKUMEL_PREPARE_TAPE", d, l);
-	is(dokkumel_prepare(d, zeros, shared, zeros, need, out, prepared + 1, &taken) == 4, "DOKKUMEL_PREPARED", d, l);
+	is(dokkumel_prepare(d, zeros, shared, tape, need, out, prepared, &taken) == 0 && taken == need, "DOKKUMEL_PREPARE_TAPE", d, l);
+	is(dokkumel_prepare(d, zeros, shared, tape, need - 1, out, prepared, &taken) == 5, "DOKKUMEL_PREPARE_TAPE", d, l);
+	is(dokkumel_prepare(d, zeros, shared, tape, need, out, prepared + 1, &taken) == 4, "DOKKUMEL_PREPARED", d, l);
 	need = DOKKUMEL_ENCRYPT_PREPARED_TAPE(d, l);
-	is(dokkumel_encrypt_prepared(d, zeros, prepared + 1, zeros, block, zeros, need, out, block, &taken) == 2, "DOKKUMEL_PREPARED", d, l);
+	is(dokkumel_encrypt_prepared(d, zeros, prepared + 1, zeros, block, tape, need, out, block, &taken) == 2, "DOKKUMEL_PREPARED", d, l);
 }
 
 void known_macros(void)
@@ -119,6 +126,6 @@ void known_macros(void)
 			of_prepared(d, l);
 		}
 	}
-	is(dokkumel_refresh(DOKKUMEL_MAX_ORDER + 1, zeros, 10, zeros, 9, out, 10, &taken) == DOKKUMEL_REFUSED_ORDER,
+	is(dokkumel_refresh(DOKKUMEL_MAX_ORDER + 1, zeros, 10, tape, 3, out, 10, &taken) == DOKKUMEL_REFUSED_ORDER,
 		"DOKKUMEL_MAX_ORDER", DOKKUMEL_MAX_ORDER, 1);
 }

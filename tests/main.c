@@ -39,6 +39,10 @@ int main(int argc, char **argv)
 	puts("FIPS 197's examples at orders 1, 2, 3 and 8, by either route and backwards, and its round keys: as printed");
 	known_small();
 	puts("document 01's small values and edges: as told");
+	known_needs();
+	puts("tape of every routine, order and length, in words: one less is refused, one more has no effect");
+	known_before();
+	puts("on the same bytes all shares are as they were when the tape was of bytes");
 	known_refusals();
 	puts("refusals of the calls that take a key: in their order, at every length, and as foretold");
 	known_previews();

@@ -5,6 +5,10 @@
 
 #include <string.h>
 
+const size_t plan_units[BUFFERS] = {
+	[KEY] = 1, [INPUT] = 1, [RIGHT] = 1, [TAPE] = sizeof(uint32_t), [LIST] = sizeof(uint16_t), [OUTPUT] = 1, [TAKEN] = sizeof(size_t),
+};
+
 /* What can be wrong with a call, and who can have it. */
 enum fault { BAD_ORDER, BAD_KEY, BAD_INPUT, BAD_RIGHT, BAD_TAPE, BAD_OUTPUT, BAD_LIST, BAD_PLACE, FAULTS };
 
@@ -159,7 +163,7 @@ void plan_make(struct plan *p, struct noise *n)
 		p->len[TAPE] = tape_length(n, p->len[TAPE], faults & BIT(BAD_TAPE));
 	if (p->routine == UNUSED)
 		p->count = choose_count(n, p->len[TAPE]);
-	p->len[TAKEN] = sizeof(size_t);
+	p->len[TAKEN] = 1;
 }
 
 size_t plan_key_bytes(const struct plan *p)

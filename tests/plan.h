@@ -12,13 +12,16 @@ enum routine { SPLIT, JOIN, REFRESH, PRODUCT, SHEET, READ, SBOX, ENCRYPT, DECRYP
 /* INPUT is also the left factor, KEY also prepared keys. */
 enum buffer { KEY, INPUT, RIGHT, TAPE, LIST, OUTPUT, TAKEN, BUFFERS };
 
+/* Bytes of an entry of each buffer: a tape has words, a list numbers of 16 bits. */
+extern const size_t plan_units[BUFFERS];
+
 #define MAX_LIST 64
 
 struct plan {
 	enum routine routine;
 	size_t order;
 	size_t count;          /* dokkumel_unused_tape's */
-	size_t len[BUFFERS];   /* in bytes; a list's in entries */
+	size_t len[BUFFERS];   /* in entries */
 	uint16_t list[MAX_LIST];
 };
 

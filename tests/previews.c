@@ -4,6 +4,7 @@
 #include "block_call.h"
 #include "dokkumel.h"
 #include "key_sizes.h"
+#include "needs.h"
 
 #include <stdint.h>
 #include <stdio.h>
@@ -11,13 +12,14 @@
 static const struct job {
 	const char *name;
 	block_preview *preview;
-	const size_t *key, *sboxes;
+	const size_t *key;
+	enum routine routine;
 	int prepares;
 } jobs[] = {
-	{ "preview_encrypt", dokkumel_preview_encrypt, key_bytes, all_sboxes, 0 },
-	{ "preview_decrypt", dokkumel_preview_decrypt, key_bytes, all_sboxes, 0 },
-	{ "preview_encrypt_prepared", dokkumel_preview_encrypt_prepared, round_key_bytes, round_sboxes, 0 },
-	{ "preview_prepare", NULL, key_bytes, key_sboxes, 1 },
+	{ "preview_encrypt", dokkumel_preview_encrypt, key_bytes, ENCRYPT, 0 },
+	{ "preview_decrypt", dokkumel_preview_decrypt, key_bytes, DECRYPT, 0 },
+	{ "preview_encrypt_prepared", dokkumel_preview_encrypt_prepared, round_key_bytes, ENCRYPT_PREPARED, 0 },
+	{ "preview_prepare", NULL, key_bytes, PREPARE, 1 },
 };
 
 /* The lengths of a job's buffers. */
@@ -28,7 +30,7 @@ struct lengths {
 static struct lengths fitting(const struct job *j, size_t d, size_t size)
 {
 	size_t n = d + 1, output = j->prepares ? round_key_bytes[size] : 16;
-	struct lengths l = { n * j->key[size], n * 16, j->sboxes[size] * (2 * d * d + 4 * d), n * output };
+	struct lengths l = { n * j->key[size], n * 16, need_words(j->routine, d, key_bytes[size]), n * output };
 
 	return l;
 }
@@ -46,9 +48,10 @@ static void is(const struct job *j, size_t d, struct lengths l, uint32_t wanted,
 	known_is(status == wanted && taken == (wanted == 0 ? need : 12345), text);
 }
 
-/* A length that differs from a fitting one by so much does not fit: in low bits, and in those that a product with 16, 24 or n would lose. */
+/* A length that differs from a fitting one by so much does not fit: in low bits, and in those that a product with 4, 16, 24 or n would lose. */
 static const size_t more[] = {
-	1, 15, 16, 256, 65536, (size_t)1 << 32, (size_t)1 << 59, (size_t)1 << 60, (size_t)1 << 61, (size_t)3 << 61, (size_t)1 << 63,
+	1, 15, 16, 256, 65536, (size_t)1 << 32, (size_t)1 << 59, (size_t)1 << 60, (size_t)1 << 61, (size_t)3 << 61,
+	(size_t)1 << 62, (size_t)3 << 62, (size_t)1 << 63,
 };
 #define MORE (sizeof more / sizeof more[0])
 
@@ -59,6 +62,8 @@ static void far_off(const struct job *j, size_t d, size_t size, size_t add)
 
 	l.tape = need + add;
 	is(j, d, l, 0, need);
+	l.tape = add;
+	is(j, d, l, add < need ? 5 : 0, need);
 	l = fit, l.output = fit.output + add;
 	is(j, d, l, 4, need);
 	l = fit, l.input = fit.input + add;

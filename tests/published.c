@@ -38,7 +38,7 @@ static int joins_to(const struct shared *s, const uint8_t *shares, const uint8_t
 }
 
 /* By a single call: an example's block or ciphertext becomes the other. */
-static int becomes(block_call *call, size_t e, const uint8_t from[16], const uint8_t to[16], size_t d, const uint8_t *tape, size_t tape_len)
+static int becomes(block_call *call, size_t e, const uint8_t from[16], const uint8_t to[16], size_t d, const uint32_t *tape, size_t tape_len)
 {
 	struct shared s;
 
@@ -46,18 +46,18 @@ static int becomes(block_call *call, size_t e, const uint8_t from[16], const uin
 		&& joins_to(&s, s.block, to);
 }
 
-static int encrypts(size_t e, size_t d, const uint8_t *tape, size_t tape_len)
+static int encrypts(size_t e, size_t d, const uint32_t *tape, size_t tape_len)
 {
 	return becomes(dokkumel_encrypt, e, examples[e].block, examples[e].want, d, tape, tape_len);
 }
 
-static int decrypts(size_t e, size_t d, const uint8_t *tape, size_t tape_len)
+static int decrypts(size_t e, size_t d, const uint32_t *tape, size_t tape_len)
 {
 	return becomes(dokkumel_decrypt, e, examples[e].want, examples[e].block, d, tape, tape_len);
 }
 
 /* Prepared once, and encrypted from twice. */
-static int encrypts_prepared(size_t e, size_t d, const uint8_t *tape, size_t tape_len)
+static int encrypts_prepared(size_t e, size_t d, const uint32_t *tape, size_t tape_len)
 {
 	uint8_t prepared[DOKKUMEL_PREPARED(8, 32)] = { 0 }, output[DOKKUMEL_SHARED(8, 16)] = { 0 };
 	size_t prepared_len = DOKKUMEL_PREPARED(d, examples[e].key_len), taken = 0;

@@ -4,13 +4,15 @@
 #include "block_call.h"
 #include "dokkumel.h"
 #include "key_sizes.h"
+#include "needs.h"
 
 #include <stdio.h>
 #include <string.h>
 
 #define LONGEST 2400
 
-static const uint8_t zeros[DOKKUMEL_ENCRYPT_TAPE(8, 32)];
+static const uint8_t zeros[LONGEST];
+static const uint32_t tape[DOKKUMEL_ENCRYPT_TAPE(8, 32)];
 static uint8_t out[LONGEST];
 static size_t taken;
 
@@ -18,11 +20,12 @@ static const struct block {
 	const char *name;
 	block_call *call;
 	block_preview *preview;
-	const size_t *key, *sboxes;
+	const size_t *key;
+	enum routine routine;
 } blocks[] = {
-	{ "encrypt", dokkumel_encrypt, dokkumel_preview_encrypt, key_bytes, all_sboxes },
-	{ "decrypt", dokkumel_decrypt, dokkumel_preview_decrypt, key_bytes, all_sboxes },
-	{ "encrypt_prepared", dokkumel_encrypt_prepared, dokkumel_preview_encrypt_prepared, round_key_bytes, round_sboxes },
+	{ "encrypt", dokkumel_encrypt, dokkumel_preview_encrypt, key_bytes, ENCRYPT },
+	{ "decrypt", dokkumel_decrypt, dokkumel_preview_decrypt, key_bytes, DECRYPT },
+	{ "encrypt_prepared", dokkumel_encrypt_prepared, dokkumel_preview_encrypt_prepared, round_key_bytes, ENCRYPT_PREPARED },
 };
 
 static void is(int good, const char *call, const char *what, size_t d, size_t bytes)
@@ -63,7 +66,7 @@ static uint32_t prepare(size_t d, size_t key_len, size_t output_len, size_t tape
 	before();
 	count = taken;
 	foretold = dokkumel_preview_prepare(d, key_len, tape_len, output_len, &count);
-	status = dokkumel_prepare(d, zeros, key_len, zeros, tape_len, out, output_len, &taken);
+	status = dokkumel_prepare(d, zeros, key_len, tape, tape_len, out, output_len, &taken);
 	return as_foretold(status, foretold, count, "prepare", d, key_len);
 }
 
@@ -75,14 +78,14 @@ static uint32_t block(const struct block *b, size_t d, size_t key_len, size_t in
 	before();
 	count = taken;
 	foretold = b->preview(d, key_len, input_len, tape_len, output_len, &count);
-	status = b->call(d, zeros, key_len, zeros, input_len, zeros, tape_len, out, output_len, &taken);
+	status = b->call(d, zeros, key_len, zeros, input_len, tape, tape_len, out, output_len, &taken);
 	return as_foretold(status, foretold, count, b->name, d, key_len);
 }
 
 /* All causes at once, and then one less in each line. */
 static void prepare_in_order(size_t d, size_t size)
 {
-	size_t l = key_bytes[size], key = (d + 1) * l, prepared = (d + 1) * round_key_bytes[size], need = key_sboxes[size] * DOKKUMEL_SBOX_TAPE(d);
+	size_t l = key_bytes[size], key = (d + 1) * l, prepared = (d + 1) * round_key_bytes[size], need = need_words(PREPARE, d, l);
 
 	is(refused(prepare(9, key + 1, prepared + 1, need - 1), 1), "prepare", "1 first", d, l);
 	is(refused(prepare(d, key + 1, prepared + 1, need - 1), 2), "prepare", "2 next", d, l);
@@ -94,7 +97,7 @@ static void prepare_in_order(size_t d, size_t size)
 /* The same for a call on one block. */
 static void block_in_order(const struct block *b, size_t d, size_t size)
 {
-	size_t l = key_bytes[size], key = (d + 1) * b->key[size], shared = (d + 1) * 16, need = b->sboxes[size] * DOKKUMEL_SBOX_TAPE(d);
+	size_t l = key_bytes[size], key = (d + 1) * b->key[size], shared = (d + 1) * 16, need = need_words(b->routine, d, l);
 
 	is(refused(block(b, 9, key + 1, shared + 1, shared + 1, need - 1), 1), b->name, "1 first", d, l);
 	is(refused(block(b, d, key + 1, shared + 1, shared + 1, need - 1), 2), b->name, "2 next", d, l);

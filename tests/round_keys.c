@@ -55,7 +55,7 @@ static int round_key(size_t d, size_t key_bytes, size_t r, const uint8_t *prepar
 	return dokkumel_join(d, shares, DOKKUMEL_SHARED(d, 16), out, 16, &taken) == DOKKUMEL_OK;
 }
 
-static int as_printed(size_t e, size_t d, const uint8_t *tape, size_t tape_len)
+static int as_printed(size_t e, size_t d, const uint32_t *tape, size_t tape_len)
 {
 	size_t l = examples[e].key_bytes, key_len = DOKKUMEL_SHARED(d, l), prepared_len = DOKKUMEL_PREPARED(d, l), at, taken = 0;
 	uint8_t key[32], shares[DOKKUMEL_SHARED(8, 32)] = { 0 }, prepared[DOKKUMEL_PREPARED(8, 32)] = { 0 };

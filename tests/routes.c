@@ -24,7 +24,7 @@ const char *routes_differ(const struct plan *c, const struct guarded *g)
 	uint8_t prepared[DOKKUMEL_PREPARED(8, 32)] = { 0 }, output[DOKKUMEL_SHARED(8, 16)] = { 0 };
 	size_t d = c->order, prepared_len = DOKKUMEL_PREPARED(d, c->len[KEY] / (d + 1)), tape_len = c->len[TAPE];
 	size_t at, single, preparing = 0, encrypting = 0;
-	const uint8_t *tape = g[TAPE].before;
+	const uint32_t *tape = (const uint32_t *)(void *)g[TAPE].before;
 
 	memcpy(&single, g[TAKEN].lent, sizeof single);
 	if (dokkumel_prepare(d, g[KEY].before, c->len[KEY], tape, tape_len, prepared, prepared_len, &preparing) != DOKKUMEL_OK)

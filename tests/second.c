@@ -13,7 +13,7 @@ static size_t share_length(size_t total, size_t n)
 	return 0;
 }
 
-uint32_t second_split(size_t order, const uint8_t *input, size_t input_len, const uint8_t *tape, size_t tape_len,
+uint32_t second_split(size_t order, const uint8_t *input, size_t input_len, const uint32_t *tape, size_t tape_len,
 	uint8_t *output, size_t output_len, size_t *taken)
 {
 	if (order < 1 || order > MAX_ORDER)
@@ -22,14 +22,14 @@ uint32_t second_split(size_t order, const uint8_t *input, size_t input_len, cons
 		return 3;
 	if (output_len != input_len + order * input_len)
 		return 4;
-	if (tape_len < order * input_len)
+	if (tape_len < tape_words(order * input_len))
 		return 5;
 	for (size_t k = 0; k < input_len; k++) {
 		output[k] = input[k];
 		for (size_t i = 1; i <= order; i++)
-			output[k] ^= output[i * input_len + k] = tape[(i - 1) * input_len + k];
+			output[k] ^= output[i * input_len + k] = tape_byte(tape, (i - 1) * input_len + k);
 	}
-	*taken = order * input_len;
+	*taken = tape_words(order * input_len);
 	return 0;
 }
 
@@ -49,7 +49,7 @@ uint32_t second_join(size_t order, const uint8_t *input, size_t input_len,
 	return 0;
 }
 
-uint32_t second_refresh(size_t order, const uint8_t *input, size_t input_len, const uint8_t *tape, size_t tape_len,
+uint32_t second_refresh(size_t order, const uint8_t *input, size_t input_len, const uint32_t *tape, size_t tape_len,
 	uint8_t *output, size_t output_len, size_t *taken)
 {
 	struct tape t = { tape, 0 };
@@ -60,11 +60,11 @@ uint32_t second_refresh(size_t order, const uint8_t *input, size_t input_len, co
 		return 3;
 	if (output_len != order + 1)
 		return 4;
-	if (tape_len < order)
+	if (tape_len < tape_words(order))
 		return 5;
 	memcpy(output, input, input_len);
 	step_refresh(order, output, &t);
-	*taken = t.drawn;
+	*taken = tape_words(t.drawn);
 	return 0;
 }
 
@@ -78,7 +78,7 @@ static uint32_t unfit_factors(size_t order, size_t left_len, size_t right_len)
 
 static int short_tape(size_t order, size_t tape_len)
 {
-	return tape_len < order * (order + 1) / 2;
+	return tape_len < tape_words(order * (order + 1) / 2);
 }
 
 static size_t places_of(size_t order)
@@ -89,7 +89,7 @@ static size_t places_of(size_t order)
 }
 
 uint32_t second_product(size_t order, const uint8_t *left, size_t left_len, const uint8_t *right, size_t right_len,
-	const uint8_t *tape, size_t tape_len, uint8_t *output, size_t output_len, size_t *taken)
+	const uint32_t *tape, size_t tape_len, uint8_t *output, size_t output_len, size_t *taken)
 {
 	struct tape t = { tape, 0 };
 	uint8_t places[MAX_PLACES];
@@ -102,12 +102,12 @@ uint32_t second_product(size_t order, const uint8_t *left, size_t left_len, cons
 	if (short_tape(order, tape_len))
 		return 5;
 	step_product(order, left, right, &t, output, places);
-	*taken = t.drawn;
+	*taken = tape_words(t.drawn);
 	return 0;
 }
 
 uint32_t second_product_sheet(size_t order, const uint8_t *left, size_t left_len, const uint8_t *right, size_t right_len,
-	const uint8_t *tape, size_t tape_len, uint8_t *output, size_t output_len, size_t *taken)
+	const uint32_t *tape, size_t tape_len, uint8_t *output, size_t output_len, size_t *taken)
 {
 	struct tape t = { tape, 0 };
 	uint8_t product[MAX_SHARES];
@@ -120,12 +120,12 @@ uint32_t second_product_sheet(size_t order, const uint8_t *left, size_t left_len
 	if (short_tape(order, tape_len))
 		return 5;
 	step_product(order, left, right, &t, product, output);
-	*taken = t.drawn;
+	*taken = tape_words(t.drawn);
 	return 0;
 }
 
 uint32_t second_read_places(size_t order, const uint8_t *left, size_t left_len, const uint8_t *right, size_t right_len,
-	const uint8_t *tape, size_t tape_len, const uint16_t *list, size_t list_len,
+	const uint32_t *tape, size_t tape_len, const uint16_t *list, size_t list_len,
 	uint8_t *output, size_t output_len, size_t *taken)
 {
 	struct tape t = { tape, 0 };
@@ -146,11 +146,11 @@ uint32_t second_read_places(size_t order, const uint8_t *left, size_t left_len, 
 	step_product(order, left, right, &t, product, places);
 	for (size_t k = 0; k < list_len; k++)
 		output[k] = places[list[k]];
-	*taken = t.drawn;
+	*taken = tape_words(t.drawn);
 	return 0;
 }
 
-uint32_t second_sbox(size_t order, const uint8_t *input, size_t input_len, const uint8_t *tape, size_t tape_len,
+uint32_t second_sbox(size_t order, const uint8_t *input, size_t input_len, const uint32_t *tape, size_t tape_len,
 	uint8_t *output, size_t output_len, size_t *taken)
 {
 	struct tape t = { tape, 0 };
@@ -161,15 +161,15 @@ uint32_t second_sbox(size_t order, const uint8_t *input, size_t input_len, const
 		return 3;
 	if (output_len != order + 1)
 		return 4;
-	if (tape_len < 2 * order * order + 4 * order)
+	if (tape_len < tape_words(2 * order * order + 4 * order))
 		return 5;
 	memcpy(output, input, input_len);
 	step_sbox(order, output, &t);
-	*taken = t.drawn;
+	*taken = tape_words(t.drawn);
 	return 0;
 }
 
-size_t second_unused_tape(const uint8_t *tape, size_t tape_len, size_t count)
+size_t second_unused_tape(const uint32_t *tape, size_t tape_len, size_t count)
 {
 	(void)tape;
 	return count < tape_len ? count : tape_len;

@@ -6,7 +6,7 @@
 static const size_t key_sboxes[9] = { [4] = 40, [6] = 32, [8] = 52 };
 static const size_t round_sboxes[9] = { [4] = 160, [6] = 192, [8] = 224 };
 
-static size_t sbox_tape(size_t order)
+static size_t sbox_bytes(size_t order)
 {
 	return 2 * order * order + 4 * order;
 }
@@ -25,7 +25,7 @@ static size_t prepared_words(size_t total, size_t n)
 
 /* One block, by a step that draws so many S-boxes. words is 0 where the key's length fits no size; 1 is asked before it. */
 static uint32_t one_block(step_block *step, size_t sboxes, size_t words, size_t order, const uint8_t *key,
-	const uint8_t *input, size_t input_len, const uint8_t *tape, size_t tape_len, uint8_t *output, size_t output_len, size_t *taken)
+	const uint8_t *input, size_t input_len, const uint32_t *tape, size_t tape_len, uint8_t *output, size_t output_len, size_t *taken)
 {
 	struct tape t = { tape, 0 };
 
@@ -37,15 +37,15 @@ static uint32_t one_block(step_block *step, size_t sboxes, size_t words, size_t 
 		return 3;
 	if (output_len != 16 * (order + 1))
 		return 4;
-	if (tape_len < sboxes * sbox_tape(order))
+	if (tape_len < tape_words(sboxes * sbox_bytes(order)))
 		return 5;
 	step(order, words, key, input, &t, output);
-	*taken = t.drawn;
+	*taken = tape_words(t.drawn);
 	return 0;
 }
 
 uint32_t second_encrypt(size_t order, const uint8_t *key, size_t key_len, const uint8_t *input, size_t input_len,
-	const uint8_t *tape, size_t tape_len, uint8_t *output, size_t output_len, size_t *taken)
+	const uint32_t *tape, size_t tape_len, uint8_t *output, size_t output_len, size_t *taken)
 {
 	size_t words = key_words(key_len, order + 1), sboxes = key_sboxes[words] + round_sboxes[words];
 
@@ -53,7 +53,7 @@ uint32_t second_encrypt(size_t order, const uint8_t *key, size_t key_len, const 
 }
 
 uint32_t second_decrypt(size_t order, const uint8_t *key, size_t key_len, const uint8_t *input, size_t input_len,
-	const uint8_t *tape, size_t tape_len, uint8_t *output, size_t output_len, size_t *taken)
+	const uint32_t *tape, size_t tape_len, uint8_t *output, size_t output_len, size_t *taken)
 {
 	size_t words = key_words(key_len, order + 1), sboxes = key_sboxes[words] + round_sboxes[words];
 
@@ -61,7 +61,7 @@ uint32_t second_decrypt(size_t order, const uint8_t *key, size_t key_len, const 
 }
 
 uint32_t second_encrypt_prepared(size_t order, const uint8_t *prepared, size_t prepared_len, const uint8_t *input, size_t input_len,
-	const uint8_t *tape, size_t tape_len, uint8_t *output, size_t output_len, size_t *taken)
+	const uint32_t *tape, size_t tape_len, uint8_t *output, size_t output_len, size_t *taken)
 {
 	size_t words = prepared_words(prepared_len, order + 1), sboxes = round_sboxes[words];
 
@@ -69,7 +69,7 @@ uint32_t second_encrypt_prepared(size_t order, const uint8_t *prepared, size_t p
 		output, output_len, taken);
 }
 
-uint32_t second_prepare(size_t order, const uint8_t *key, size_t key_len, const uint8_t *tape, size_t tape_len,
+uint32_t second_prepare(size_t order, const uint8_t *key, size_t key_len, const uint32_t *tape, size_t tape_len,
 	uint8_t *output, size_t output_len, size_t *taken)
 {
 	struct tape t = { tape, 0 };
@@ -82,9 +82,9 @@ uint32_t second_prepare(size_t order, const uint8_t *key, size_t key_len, const 
 		return 2;
 	if (prepared_words(output_len, order + 1) != words)
 		return 4;
-	if (tape_len < key_sboxes[words] * sbox_tape(order))
+	if (tape_len < tape_words(key_sboxes[words] * sbox_bytes(order)))
 		return 5;
 	step_prepare(order, words, key, &t, output);
-	*taken = t.drawn;
+	*taken = tape_words(t.drawn);
 	return 0;
 }

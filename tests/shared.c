@@ -22,7 +22,7 @@ static int split_string(struct shared *s, const uint8_t *string, size_t l, uint8
 }
 
 int shared_split(struct shared *s, size_t d, const uint8_t *key, size_t key_bytes, const uint8_t *block,
-	const uint8_t *tape, size_t tape_len)
+	const uint32_t *tape, size_t tape_len)
 {
 	*s = (struct shared){ .d = d, .key_bytes = key_bytes, .key_len = DOKKUMEL_SHARED(d, key_bytes),
 		.block_len = DOKKUMEL_SHARED(d, 16), .tape = tape, .tape_len = tape_len };

@@ -1,4 +1,4 @@
-/* Document 01's small values and edges, through the C interface. */
+/* Document 01's small values and edges, with its tapes in words, through the C interface. */
 #include "known.h"
 
 #include "block_call.h"
@@ -7,22 +7,24 @@
 #include <stdio.h>
 #include <string.h>
 
-static const uint8_t zeros[DOKKUMEL_ENCRYPT_TAPE(8, 32)];
+static const uint8_t zeros[33];
+static const uint32_t zero_tape[300];
 
 static void values(void)
 {
-	static const uint8_t a[] = { 0x02, 0x03 }, b[] = { 0x01, 0x04 }, tape[] = { 0x10 }, product[] = { 0x12, 0x17 };
+	static const uint8_t a[] = { 0x02, 0x03 }, b[] = { 0x01, 0x04 }, product[] = { 0x12, 0x17 };
 	static const uint8_t sheet[] = { 2, 3, 1, 4, 0x10, 8, 0x18, 3, 0x1b, 2, 0x12, 0x0c, 0x17 };
-	static const uint8_t shares[] = { 0x10, 0x20, 0x30 }, masks[] = { 1, 2 }, refreshed[] = { 0x13, 0x21, 0x32 };
+	static const uint8_t shares[] = { 0x10, 0x20, 0x30 }, refreshed[] = { 0x13, 0x21, 0x32 };
+	static const uint32_t tape[] = { 0x00000010 }, masks[] = { 0x00000201 };
 	uint8_t out[13] = { 0 };
 	size_t taken = 0;
 
-	known_is(dokkumel_refresh(2, shares, 3, masks, 2, out, 3, &taken) == 0 && taken == 2 && memcmp(out, refreshed, 3) == 0,
-		"refresh of 10 20 30 on the tape 01 02 is 13 21 32");
+	known_is(dokkumel_refresh(2, shares, 3, masks, 1, out, 3, &taken) == 0 && taken == 1 && memcmp(out, refreshed, 3) == 0,
+		"refresh of 10 20 30 on the word 00000201 is 13 21 32");
 	known_is(dokkumel_product_sheet(1, a, 2, b, 2, tape, 1, out, 13, &taken) == 0 && taken == 1 && memcmp(out, sheet, 13) == 0,
-		"the sheet of 02 03 and 01 04 on the tape 10");
+		"the sheet of 02 03 and 01 04 on the word 00000010");
 	known_is(dokkumel_product(1, a, 2, b, 2, tape, 1, out, 2, &taken) == 0 && taken == 1 && memcmp(out, product, 2) == 0,
-		"the product of 02 03 and 01 04 on the tape 10 is 12 17");
+		"the product of 02 03 and 01 04 on the word 00000010 is 12 17");
 }
 
 static void boxes(void)
@@ -31,11 +33,11 @@ static void boxes(void)
 	uint8_t out[3] = { 0 };
 	size_t taken = 0;
 
-	known_is(dokkumel_sbox(1, zeros, 2, zeros, 6, out, 2, &taken) == 0 && taken == 6 && memcmp(out, box_0, 2) == 0,
+	known_is(dokkumel_sbox(1, zeros, 2, zero_tape, 2, out, 2, &taken) == 0 && taken == 2 && memcmp(out, box_0, 2) == 0,
 		"the S-box of 00 00 on zero tape is 00 63");
-	known_is(dokkumel_sbox(1, one, 2, zeros, 6, out, 2, &taken) == 0 && taken == 6 && memcmp(out, box_1, 2) == 0,
+	known_is(dokkumel_sbox(1, one, 2, zero_tape, 2, out, 2, &taken) == 0 && taken == 2 && memcmp(out, box_1, 2) == 0,
 		"the S-box of 01 00 on zero tape is 1f 63");
-	known_is(dokkumel_sbox(2, zeros, 3, zeros, 16, out, 3, &taken) == 0 && taken == 16 && memcmp(out, box_2, 3) == 0,
+	known_is(dokkumel_sbox(2, zeros, 3, zero_tape, 4, out, 3, &taken) == 0 && taken == 4 && memcmp(out, box_2, 3) == 0,
 		"the S-box of 00 00 00 on zero tape is 63 63 63");
 }
 
@@ -45,13 +47,13 @@ static void edges(void)
 	uint8_t out[10] = { 0 };
 	size_t taken = 0;
 
-	known_is(dokkumel_refresh(8, zeros, 9, zeros, 8, out, 9, &taken) == 0, "order 8 is served");
-	known_is(dokkumel_refresh(9, zeros, 10, zeros, 9, out, 10, &taken) == 1, "order 9 is refused (1)");
-	known_is(dokkumel_refresh(9, zeros, 10, zeros, 0, out, 10, &taken) == 1, "order 9 with an empty tape is refused (1)");
-	known_is(dokkumel_read_places(2, zeros, 3, zeros, 3, zeros, 3, places, 2, out, 2, &taken) == 0,
+	known_is(dokkumel_refresh(8, zeros, 9, zero_tape, 2, out, 9, &taken) == 0, "order 8 is served");
+	known_is(dokkumel_refresh(9, zeros, 10, zero_tape, 3, out, 10, &taken) == 1, "order 9 is refused (1)");
+	known_is(dokkumel_refresh(9, zeros, 10, zero_tape, 0, out, 10, &taken) == 1, "order 9 with an empty tape is refused (1)");
+	known_is(dokkumel_read_places(2, zeros, 3, zeros, 3, zero_tape, 1, places, 2, out, 2, &taken) == 0,
 		"at order 2, two places are read, 29 among them");
-	known_is(dokkumel_read_places(2, zeros, 3, zeros, 3, zeros, 3, places, 3, out, 3, &taken) == 6, "at order 2, three places are refused (6)");
-	known_is(dokkumel_read_places(2, zeros, 3, zeros, 3, zeros, 3, past, 2, out, 2, &taken) == 7, "at order 2, place 30 is refused (7)");
+	known_is(dokkumel_read_places(2, zeros, 3, zeros, 3, zero_tape, 1, places, 3, out, 3, &taken) == 6, "at order 2, three places are refused (6)");
+	known_is(dokkumel_read_places(2, zeros, 3, zeros, 3, zero_tape, 1, past, 2, out, 2, &taken) == 7, "at order 2, place 30 is refused (7)");
 }
 
 static void is(int good, const char *call, const char *what)
@@ -68,11 +70,11 @@ static void key_edges(const char *name, block_call *call)
 	uint8_t out[32] = { 0 };
 	size_t taken = 0;
 
-	is(call(1, zeros, 32, zeros, 32, zeros, 1200, out, 32, &taken) == 0 && taken == 1200, name,
-		"a 16-byte key at order 1 with 1200 tape bytes is served");
-	is(call(1, zeros, 32, zeros, 32, zeros, 1199, out, 32, &taken) == 5, name,
-		"a 16-byte key at order 1 with 1199 tape bytes is refused (5)");
-	is(call(1, zeros, 33, zeros, 32, zeros, 1200, out, 32, &taken) == 2, name, "33 key share bytes at order 1 are refused (2)");
+	is(call(1, zeros, 32, zeros, 32, zero_tape, 300, out, 32, &taken) == 0 && taken == 300, name,
+		"a 16-byte key at order 1 with 300 words of tape is served");
+	is(call(1, zeros, 32, zeros, 32, zero_tape, 299, out, 32, &taken) == 5, name,
+		"a 16-byte key at order 1 with 299 words of tape is refused (5)");
+	is(call(1, zeros, 33, zeros, 32, zero_tape, 300, out, 32, &taken) == 2, name, "33 key share bytes at order 1 are refused (2)");
 }
 
 void known_small(void)

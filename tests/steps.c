@@ -6,7 +6,7 @@
 
 static uint8_t draw(struct tape *t)
 {
-	uint8_t byte = t->bytes[t->drawn++];
+	uint8_t byte = tape_byte(t->words, t->drawn++);
 
 	note_drawn(t->drawn);
 	return byte;

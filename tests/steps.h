@@ -5,18 +5,14 @@
 #ifndef STEPS_H
 #define STEPS_H
 
+#include "word_tape.h"
+
 #include <stddef.h>
 #include <stdint.h>
 
 #define MAX_ORDER  8
 #define MAX_SHARES 9
 #define MAX_PLACES 279
-
-/* A tape, and how much of it has been drawn. */
-struct tape {
-	const uint8_t *bytes;
-	size_t drawn;
-};
 
 uint8_t step_times(uint8_t a, uint8_t b);
 uint8_t step_affine(uint8_t a);

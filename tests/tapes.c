@@ -7,10 +7,10 @@
 #include <string.h>
 
 /* Enough for a key and a block to split, and an encryption of the largest need, from prepared keys a second time. */
-static uint8_t tape[DOKKUMEL_SPLIT_TAPE(8, 32) + DOKKUMEL_SPLIT_TAPE(8, 16) + DOKKUMEL_ENCRYPT_TAPE(8, 32)
+static uint32_t tape[DOKKUMEL_SPLIT_TAPE(8, 32) + DOKKUMEL_SPLIT_TAPE(8, 16) + DOKKUMEL_ENCRYPT_TAPE(8, 32)
 	+ DOKKUMEL_ENCRYPT_PREPARED_TAPE(8, 32)];
 
-void known_on_tapes(const char *name, size_t e, int (*good)(size_t e, size_t d, const uint8_t *tape, size_t tape_len))
+void known_on_tapes(const char *name, size_t e, int (*good)(size_t e, size_t d, const uint32_t *tape, size_t tape_len))
 {
 	static const size_t orders[] = { 1, 2, 3, 8 };
 	static struct noise n = { 197 };
@@ -23,7 +23,7 @@ void known_on_tapes(const char *name, size_t e, int (*good)(size_t e, size_t d, 
 			if (t > 1)
 				noise_fill(&n, tape, sizeof tape);
 			snprintf(what, sizeof what, "FIPS 197, %s, order %zu, tape %d", name, orders[o], t);
-			known_is(good(e, orders[o], tape, sizeof tape), what);
+			known_is(good(e, orders[o], tape, sizeof tape / sizeof tape[0]), what);
 		}
 	}
 }

@@ -27,10 +27,10 @@ struct secret {
 /* Shares of the key and of a block on fresh tape, so that the key's are others each time. */
 static int split_afresh(struct shared *s, size_t d, const struct secret *x, const uint8_t *block, struct noise *n)
 {
-	static uint8_t tape[DOKKUMEL_SPLIT_TAPE(8, 32) + DOKKUMEL_SPLIT_TAPE(8, 16) + DOKKUMEL_ENCRYPT_TAPE(8, 32)];
+	static uint32_t tape[DOKKUMEL_SPLIT_TAPE(8, 32) + DOKKUMEL_SPLIT_TAPE(8, 16) + DOKKUMEL_ENCRYPT_TAPE(8, 32)];
 	size_t l = x->key_bytes, len = DOKKUMEL_SPLIT_TAPE(d, l) + DOKKUMEL_SPLIT_TAPE(d, 16) + DOKKUMEL_ENCRYPT_TAPE(d, l);
 
-	noise_fill(n, tape, len);
+	noise_fill(n, tape, len * sizeof tape[0]);
 	return shared_split(s, d, x->key, l, block, tape, len);
 }
 

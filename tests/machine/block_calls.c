@@ -1,4 +1,5 @@
-/* Windows of the calls on a block with a key of 16 bytes: one inverse S-box, the linear steps and key words between S-boxes. */
+/* Windows of the calls on a block with a key of 16 bytes: the linear steps and key words between S-boxes, each with the unpacked tape of the four
+   S-boxes before them and the last of these; and one inverse S-box. */
 #include "calls.h"
 
 #include "inputs.h"
@@ -7,14 +8,14 @@
 #define FEW_RUNS  60  /* of bytes of small fields, which repeat often */
 #define MANY_RUNS 200 /* of any bytes */
 
-/* From the last draw of S-box `last` to the first draw of S-box `next`. */
-static void set_window(size_t last, size_t next)
+/* From the unpacking for S-box `first` and the three behind it to that for S-box `next`; both are multiples of four. */
+static void set_window(size_t first, size_t next)
 {
 	in.left_len = in.out_len = DOKKUMEL_SHARED(in.order, BLOCK);
-	in.start = (last + 1) * in.box - 1;
-	in.end = next == AT_RETURN ? AT_RETURN : next * in.box;
-	in.from = last * in.box;
-	in.to = next == AT_RETURN ? in.tape_len : in.end;
+	in.start = first / 4 * in.box;
+	in.end = next == AT_RETURN ? AT_RETURN : next / 4 * in.box;
+	in.from = first * in.box;
+	in.to = next == AT_RETURN ? 4 * in.tape_len : next * in.box;
 }
 
 static void set_prepared(void)
@@ -42,19 +43,22 @@ static void set_first_key(void)
 }
 
 /* The linear steps between two rounds, and those of the last round. */
-static void set_round(void) { set_prepared(); set_window(15, 16); }
-static void set_last_round(void) { set_prepared(); set_window(DOKKUMEL_ROUND_SBOXES(KEY) - 1, AT_RETURN); }
-static void set_inverse_round(void) { set_from_key(); set_window(KEY_BOXES + 15, KEY_BOXES + 16); }
-static void set_last_inverse_round(void) { set_from_key(); set_window(ALL_BOXES - 1, AT_RETURN); }
+static void set_round(void) { set_prepared(); set_window(12, 16); }
+static void set_last_round(void) { set_prepared(); set_window(DOKKUMEL_ROUND_SBOXES(KEY) - 4, AT_RETURN); }
+static void set_inverse_round(void) { set_from_key(); set_window(KEY_BOXES + 12, KEY_BOXES + 16); }
+static void set_last_inverse_round(void) { set_from_key(); set_window(ALL_BOXES - 4, AT_RETURN); }
 
-/* The first inverse S-box of a decryption, with the steps before it: the last key words, the first round key, InvShiftRows. */
-static void set_inverse_sbox(void) { set_from_key(); set_window(KEY_BOXES - 1, KEY_BOXES + 1); }
+/* Before the first inverse S-box of a decryption: the last key words, the first round key, InvShiftRows. */
+static void set_first_inverse_key(void) { set_from_key(); set_window(KEY_BOXES - 4, KEY_BOXES); }
+
+/* The fourth inverse S-box. */
+static void set_inverse_sbox(void) { set_from_key(); set_window(KEY_BOXES, KEY_BOXES + 4); }
 
 /* The key words that the first S-boxes of a preparation serve. */
 static void set_key_words(void)
 {
 	in.tape_len = DOKKUMEL_PREPARE_TAPE(in.order, KEY);
-	set_window(3, 4);
+	set_window(0, 4);
 	in.key_len = DOKKUMEL_SHARED(in.order, KEY);
 	in.out_len = DOKKUMEL_PREPARED(in.order, KEY);
 }
@@ -67,9 +71,9 @@ static void set_whole(void)
 }
 
 /*
- * Byte 0 of the block, and the draws of its S-box, such that the inverse
- * affine map leaves shares of the run's field. All else is the same in every
- * run: whatever depends on it is too.
+ * Byte 12 of the block, which comes fourth, and the draws of its S-box, such
+ * that the inverse affine map leaves shares of the run's field. All else is
+ * the same in every run: whatever depends on it is too.
  */
 static void draw_inverse_sbox(size_t run)
 {
@@ -82,11 +86,11 @@ static void draw_inverse_sbox(size_t run)
 		draw_any(run);
 		step_prepare(in.order, (KEY / 4), in.key, &t, prepared);
 	}
-	field_bytes(in.tape + KEY_BOXES * in.box, in.box, run);
+	field_bytes(tape_at((KEY_BOXES + 3) * in.box), in.box, run);
 	for (size_t i = 0; i < in.n; i++) {
 		uint8_t x = field_byte(run) ^ (in.order % 2 == 1 && i == 0 ? 0x05 : 0);
 
-		in.left[i * BLOCK] = step_affine(x) ^ prepared[i * each + each - BLOCK];
+		in.left[i * BLOCK + 12] = step_affine(x) ^ prepared[i * each + each - BLOCK + 12];
 	}
 }
 
@@ -132,6 +136,7 @@ static void note_prepare(void)
 const struct call block_calls[] = {
 	{ "inverse-sbox", 8, FEW_RUNS, set_inverse_sbox, draw_inverse_sbox, make_decrypt, note_decrypt },
 	{ "key-words", 3, MANY_RUNS, set_key_words, draw_any, make_prepare, note_prepare },
+	{ "first-inverse-key", 3, MANY_RUNS, set_first_inverse_key, draw_any, make_decrypt, note_decrypt },
 	{ "first-key", 3, MANY_RUNS, set_first_key, draw_any, make_encrypt_prepared, note_encrypt_prepared },
 	{ "round", 3, MANY_RUNS, set_round, draw_any, make_encrypt_prepared, note_encrypt_prepared },
 	{ "last-round", 3, MANY_RUNS, set_last_round, draw_any, make_encrypt_prepared, note_encrypt_prepared },

@@ -10,7 +10,7 @@
 static void set_refresh(void) { inputs_whole(in.n, DOKKUMEL_REFRESH_TAPE(in.order), in.n); }
 static void set_product(void) { inputs_whole(in.n, DOKKUMEL_PRODUCT_TAPE(in.order), in.n); }
 static void set_sheet(void) { inputs_whole(in.n, DOKKUMEL_PRODUCT_TAPE(in.order), DOKKUMEL_PLACES(in.order)); }
-static void set_sbox(void) { inputs_whole(in.n, in.box, in.n); }
+static void set_sbox(void) { inputs_whole(in.n, DOKKUMEL_SBOX_TAPE(in.order), in.n); }
 
 static void make_refresh(void)
 {
@@ -45,6 +45,7 @@ static void note_refresh(void)
 
 	note_shares(in.left, "input");
 	step_refresh(in.order, in.second, &t);
+	note_dropped(&t);
 }
 
 static void note_product_of(void)
@@ -53,6 +54,7 @@ static void note_product_of(void)
 	uint8_t places[MAX_PLACES];
 
 	step_product(in.order, in.left, in.right, &t, in.second, places);
+	note_dropped(&t);
 	if (in.out_len != in.n)
 		memcpy(in.second, places, in.out_len);
 }
@@ -63,6 +65,7 @@ static void note_sbox(void)
 
 	note_shares(in.left, "input");
 	step_sbox(in.order, in.second, &t);
+	note_dropped(&t);
 }
 
 static void set_split(void)
@@ -81,7 +84,7 @@ static void note_split(void)
 	for (size_t k = 0; k < BLOCK; k++) {
 		in.second[k] = note(in.left[k], "input byte %zu", k);
 		for (size_t i = 1; i < in.n; i++) {
-			uint8_t mask = note(in.tape[(i - 1) * BLOCK + k], "byte %zu of share %zu", k, i);
+			uint8_t mask = note(tape_byte(in.tape, (i - 1) * BLOCK + k), "byte %zu of share %zu", k, i);
 
 			in.second[i * BLOCK + k] = mask;
 			in.second[k] = note(in.second[k] ^ mask, "byte %zu of share 0 after mask %zu", k, i);

@@ -9,7 +9,7 @@ void call_begin(const struct call *c, size_t order, struct notes *n)
 {
 	in.order = order;
 	in.n = DOKKUMEL_SHARES(order);
-	in.box = DOKKUMEL_SBOX_TAPE(order);
+	in.box = DOKKUMEL_SBOX_BYTES(order);
 	in.status = DOKKUMEL_OK;
 	c->set();
 	n->from = in.from;

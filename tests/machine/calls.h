@@ -29,7 +29,7 @@ extern const size_t byte_call_count, block_call_count;
 /* A whole encryption, which takes minutes. */
 extern const struct call whole_call;
 
-/* Routines that hold what they must not: brackets moved, and two shares in one byte (planted.c). */
+/* Routines that hold what they must not: brackets moved, and two shares in one byte, in a whole call and in a window (planted.c). */
 extern const struct call planted[];
 extern const size_t planted_count;
 

@@ -12,12 +12,12 @@
 #define BLOCK 16
 
 struct inputs {
-	size_t order, n, box; /* box: tape bytes of an S-box */
+	size_t order, n, box; /* box: tape bytes of an S-box, and tape words of four */
 	size_t key_len, left_len, tape_len, out_len, taken;
-	size_t start, end; /* the window, by bytes of the tape */
+	size_t start, end; /* the window, by words of the tape */
 	size_t from, to; /* places are noted after so many draws to so many */
 	uint8_t key[DOKKUMEL_PREPARED(8, KEY)], left[DOKKUMEL_SHARED(8, BLOCK)], right[MAX_SHARES];
-	uint8_t *tape;
+	uint32_t *tape;
 	uint8_t out[DOKKUMEL_PREPARED(8, KEY)], second[DOKKUMEL_PREPARED(8, KEY)];
 	uint32_t status;
 };
@@ -37,6 +37,12 @@ void field_bytes(uint8_t *to, size_t len, size_t run);
 
 /* Input and tape of the run's field. */
 void draw_field(size_t run);
+
+/* Byte k of the tape, for as many bytes as are set at once: a word's lowest comes first. */
+uint8_t *tape_at(size_t k);
+
+/* Notes what is left of the call's last word: it is read with the word, and then dropped. */
+void note_dropped(const struct tape *t);
 
 /* Key, input and tape of any bytes. */
 void draw_any(size_t run);

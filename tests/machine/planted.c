@@ -23,8 +23,8 @@ static void make_moved(void)
 	volatile uint8_t both = times[0][1];
 
 	both ^= times[1][0];
-	in.out[0] = times[0][0] ^ in.tape[0];
-	in.out[1] = times[1][1] ^ (both ^ in.tape[0]);
+	in.out[0] = times[0][0] ^ (uint8_t)in.tape[0];
+	in.out[1] = times[1][1] ^ (both ^ (uint8_t)in.tape[0]);
 }
 
 static void note_moved(void)
@@ -33,6 +33,7 @@ static void note_moved(void)
 	uint8_t places[MAX_PLACES];
 
 	step_product(in.order, in.left, in.right, &t, in.second, places);
+	note_dropped(&t);
 }
 
 /* Doubles a column in each of two shares, and holds a byte of both shares on the way. */
@@ -55,8 +56,44 @@ static void note_two_shares(void)
 	note_column(in.left + 4);
 }
 
+/* A window as in an encryption: tape is unpacked for four boxes, which refresh one byte each, and behind the last a byte of both shares is held. */
+static void set_behind(void)
+{
+	inputs_whole(2 * 4, 2, 2 * 4);
+	in.start = 1;
+}
+
+__attribute__((noinline)) static void box(size_t k, const volatile uint8_t *drawn)
+{
+	for (size_t i = 0; i < 2; i++)
+		in.out[4 * i + k] = in.left[4 * i + k] ^ drawn[k];
+}
+
+static void make_behind(void)
+{
+	volatile uint8_t drawn[4], both;
+
+	for (size_t k = 0; k < 4; k++)
+		drawn[k] = (uint8_t)(in.tape[1] >> 8 * k);
+	for (size_t k = 0; k < 4; k++)
+		box(k, drawn);
+	both = in.out[0] ^ in.out[4];
+	in.out[0] = both ^ in.out[4];
+}
+
+static void note_behind(void)
+{
+	for (size_t k = 0; k < 4; k++) {
+		uint8_t mask = note(tape_byte(in.tape, 4 + k), "mask %zu", k);
+
+		for (size_t i = 0; i < 2; i++)
+			in.second[4 * i + k] = note(note(in.left[4 * i + k], "byte %zu of share %zu", k, i) ^ mask, "byte %zu of share %zu masked", k, i);
+	}
+}
+
 const struct call planted[] = {
 	{ "planted: brackets moved", 1, RUNS, set_moved, draw_moved, make_moved, note_moved },
 	{ "planted: two shares in a byte", 1, RUNS, set_column, draw_field, make_two_shares, note_two_shares },
+	{ "planted: behind four S-boxes", 1, RUNS, set_behind, draw_field, make_behind, note_behind },
 };
 const size_t planted_count = sizeof planted / sizeof planted[0];

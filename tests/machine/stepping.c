@@ -1,6 +1,8 @@
 #define _GNU_SOURCE
 #include "stepping.h"
 
+#include "hop.h"
+
 #include <signal.h>
 #include <stdio.h>
 #include <stdlib.h>
@@ -38,10 +40,16 @@ static int differs;
 /* Whether instructions are looked at now. */
 static volatile sig_atomic_t stepping;
 
-/* The room of tapes, whose second half starts with the window's byte, and what is open of it. */
-static uint8_t *room, *tape;
+/* The room of tapes, whose second half starts with the window's word, and what is open of it. */
+static uint8_t *room;
+static uint32_t *tape;
 static size_t window_start, window_end;
 static int closed, close_again;
+
+/* The way over three S-boxes: the step before which it starts, the instruction that begins each, and how many are still to begin. */
+static size_t hop_step;
+static uintptr_t hop_head;
+static int scouting, hop_left, hop_planted;
 
 /* Says what is wrong, by the one call that a handler may make, and ends. */
 static void give_up(const char *why)
@@ -69,7 +77,7 @@ static void *pages(size_t len)
 	return at;
 }
 
-uint8_t *steps_new(size_t tape_len, size_t start, size_t end)
+uint32_t *steps_new(size_t tape_len, size_t start, size_t end)
 {
 	if (lanes == NULL) {
 		lanes = pages(MAX_LANES * sizeof *lanes);
@@ -78,12 +86,12 @@ uint8_t *steps_new(size_t tape_len, size_t start, size_t end)
 	lane_count = step_count = run = watched.len = 0;
 	window_start = start;
 	window_end = end;
-	size_t before = start != AT_CALL ? start : end != AT_RETURN ? end : 0;
-	if (before > ROOM / 2 || tape_len - before > ROOM / 2) {
+	size_t before = start != AT_CALL ? start : end != AT_RETURN ? end : 0, half = ROOM / 2 / sizeof *tape;
+	if (before > half || tape_len - before > half) {
 		fputs("stepping: the tape is too long\n", stderr);
 		exit(2);
 	}
-	return tape = room + ROOM / 2 - before;
+	return tape = (uint32_t *)(room + ROOM / 2) - before;
 }
 
 void steps_watch(void *at, size_t len)
@@ -141,7 +149,7 @@ static void note_step(void)
 {
 	const uint8_t *bytes = (const uint8_t *)now;
 
-	if (run == 0) {
+	if (run == 0 || scouting) {
 		if (step == MAX_STEPS)
 			give_up("stepping: too many instructions\n");
 		step_at[step] = next_at;
@@ -150,7 +158,7 @@ static void note_step(void)
 		differs = 1;
 		return;
 	}
-	for (size_t k = 0; k < STATE / 8; k++)
+	for (size_t k = 0; k < STATE / 8 && !scouting; k++)
 		if (now[k] != last[k])
 			for (size_t b = 8 * k; b < 8 * k + 8; b++)
 				if (bytes[b] != ((uint8_t *)last)[b])
@@ -158,6 +166,29 @@ static void note_step(void)
 	for (uint32_t l = first_lane[step]; l != NONE; l = lanes[l].next)
 		lanes[l].value[run] = bytes[lanes[l].where];
 	step++;
+}
+
+/* Lets the processor run to the next S-box. */
+static void run_on(ucontext_t *c)
+{
+	hop_plant(hop_head);
+	hop_planted = 1;
+	c->uc_mcontext.gregs[REG_EFL] &= ~TRAP;
+}
+
+/* An S-box is about to begin, or its first instruction has been carried out. The last is looked at again. */
+static void on_hop(ucontext_t *c)
+{
+	if (!hop_planted) {
+		run_on(c);
+		return;
+	}
+	hop_clear();
+	hop_planted = 0;
+	c->uc_mcontext.gregs[REG_RIP] = (greg_t)hop_head;
+	c->uc_mcontext.gregs[REG_EFL] |= TRAP;
+	if (--hop_left == 0)
+		begin(c);
 }
 
 static void on_trap(int number, siginfo_t *info, void *context)
@@ -168,6 +199,10 @@ static void on_trap(int number, siginfo_t *info, void *context)
 	if (close_again) {
 		protect(1);
 		close_again = 0;
+	}
+	if (hop_left > 0) {
+		on_hop(c);
+		return;
 	}
 	if (!stepping) {
 		c->uc_mcontext.gregs[REG_EFL] &= ~TRAP;
@@ -182,6 +217,10 @@ static void on_trap(int number, siginfo_t *info, void *context)
 		note_step();
 	memcpy(last, now, sizeof last);
 	next_at = (uintptr_t)c->uc_mcontext.gregs[REG_RIP];
+	if (step == hop_step && !scouting) {
+		hop_left = 4;
+		run_on(c);
+	}
 }
 
 /* A read of the closed half: of the window, or behind its end. */
@@ -192,8 +231,10 @@ static void on_fault(int number, siginfo_t *info, void *context)
 	(void)number;
 	if (!closed || (uint8_t *)info->si_addr < room + ROOM / 2 || (uint8_t *)info->si_addr >= room + ROOM)
 		give_up("stepping: a fault that is none of the tape's\n");
+	if (hop_left > 0)
+		give_up("stepping: tape is read between two S-boxes\n");
 	protect(0);
-	if (window_end != AT_RETURN && (uint8_t *)info->si_addr >= tape + window_end) {
+	if (window_end != AT_RETURN && (uint32_t *)info->si_addr >= tape + window_end) {
 		stepping = 0;
 		c->uc_mcontext.gregs[REG_EFL] &= ~TRAP;
 		return;
@@ -219,6 +260,34 @@ static void call_with(void (*call)(void), uint64_t flags)
 		"xmm13", "xmm14", "xmm15", "memory", "cc");
 }
 
+/* Makes the call, from the state that every run has. */
+static void make(void (*call)(void))
+{
+	step = 0;
+	next_at = 0;
+	differs = 0;
+	close_again = 0;
+	hop_left = 0;
+	/* The same bytes stand in the unused stack before every run. */
+	memset(stack_end - STACK, 0, STACK - 1024);
+	protect(window_start != AT_CALL || window_end != AT_RETURN);
+	stepping = window_start == AT_CALL;
+	call_with(call, stepping ? TRAP : 0);
+	stepping = 0;
+	__asm__ volatile("nop"); /* here the trap flag is taken back */
+	protect(0);
+}
+
+/* Goes through the window once, to see where its S-boxes stand. */
+static void scout(void (*call)(void))
+{
+	scouting = 1;
+	make(call);
+	scouting = 0;
+	if (!hop_find(step_at, step, &hop_step, &hop_head))
+		give_up("stepping: no four S-boxes in the window\n");
+}
+
 int steps_run(void (*call)(void))
 {
 	static uint8_t other_stack[65536];
@@ -229,19 +298,13 @@ int steps_run(void (*call)(void))
 	sigaltstack(&s, NULL);
 	sigaction(SIGTRAP, &trap, NULL);
 	sigaction(SIGSEGV, &fault, NULL);
-	step = 0;
-	next_at = 0;
-	differs = 0;
-	close_again = 0;
 	stack_end = __builtin_frame_address(0);
-	/* The same bytes stand in the unused stack before every run. */
-	memset(stack_end - STACK, 0, STACK - 1024);
-	protect(window_start != AT_CALL || window_end != AT_RETURN);
-	stepping = window_start == AT_CALL;
-	call_with(call, stepping ? TRAP : 0);
-	stepping = 0;
-	__asm__ volatile("nop"); /* here the trap flag is taken back */
-	protect(0);
+	if (run == 0) {
+		hop_step = SIZE_MAX;
+		if (window_start != AT_CALL)
+			scout(call);
+	}
+	make(call);
 	if (run == 0)
 		step_count = step;
 	run++;

@@ -5,10 +5,11 @@
  * buffers. Control flow does not depend on data, so step s of one run is step
  * s of every run.
  *
- * A window is a part of a call, told by the tape: it starts when a byte of the
+ * A window is a part of a call, told by the tape: it starts when a word of the
  * tape is first read, and ends when another is. The tape stands so that the
- * first of the two is a page's first byte, and that page is closed: each read
- * of it faults, and tells its address.
+ * first of the two is a page's first word, and that page is closed: each read
+ * of it faults, and tells its address. Where a window starts so, four S-boxes
+ * are unpacked; the first three are passed over without a look (hop.h).
  */
 #ifndef STEPPING_H
 #define STEPPING_H
@@ -36,8 +37,8 @@ extern uintptr_t step_at[MAX_STEPS];
 #define AT_CALL   SIZE_MAX
 #define AT_RETURN SIZE_MAX
 
-/* Before the first run of a call. Answers with room for a tape of so many bytes; the window is that from its byte `start` to its byte `end`. */
-uint8_t *steps_new(size_t tape_len, size_t start, size_t end);
+/* Before the first run of a call. Answers with room for a tape of so many words; the window is that from its word `start` to its word `end`. */
+uint32_t *steps_new(size_t tape_len, size_t start, size_t end);
 
 /* A buffer whose bytes are noted too. */
 void steps_watch(void *at, size_t len);

@@ -20,7 +20,9 @@
 static const size_t key_bytes[KEYS] = { 16, 24, 32 };
 
 static uint8_t key[DOKKUMEL_SHARED(8, 32)], prepared[DOKKUMEL_PREPARED(8, 32)], block[DOKKUMEL_SHARED(8, 16)], left[9], right[9];
-static uint8_t tape[DOKKUMEL_ENCRYPT_TAPE(8, 32)], output[DOKKUMEL_PREPARED(8, 32)];
+static uint32_t tape[DOKKUMEL_ENCRYPT_TAPE(8, 32)];
+#define DRAWN tape, sizeof tape / sizeof tape[0]
+static uint8_t output[DOKKUMEL_PREPARED(8, 32)];
 static struct noise noise;
 static size_t calls, failed;
 
@@ -55,12 +57,12 @@ static void bytes_at(size_t d)
 	uint16_t list[1] = { 0 };
 
 	secrets();
-	made(dokkumel_split(d, key, 16, tape, sizeof tape, output, DOKKUMEL_SHARED(d, 16), &taken));
-	made(dokkumel_refresh(d, left, n, tape, sizeof tape, output, n, &taken));
-	made(dokkumel_product(d, left, n, right, n, tape, sizeof tape, output, n, &taken));
-	made(dokkumel_product_sheet(d, left, n, right, n, tape, sizeof tape, output, DOKKUMEL_PLACES(d), &taken));
-	made(dokkumel_read_places(d, left, n, right, n, tape, sizeof tape, list, 1, output, 1, &taken));
-	made(dokkumel_sbox(d, left, n, tape, sizeof tape, output, n, &taken));
+	made(dokkumel_split(d, key, 16, DRAWN, output, DOKKUMEL_SHARED(d, 16), &taken));
+	made(dokkumel_refresh(d, left, n, DRAWN, output, n, &taken));
+	made(dokkumel_product(d, left, n, right, n, DRAWN, output, n, &taken));
+	made(dokkumel_product_sheet(d, left, n, right, n, DRAWN, output, DOKKUMEL_PLACES(d), &taken));
+	made(dokkumel_read_places(d, left, n, right, n, DRAWN, list, 1, output, 1, &taken));
+	made(dokkumel_sbox(d, left, n, DRAWN, output, n, &taken));
 	made(dokkumel_join(d, block, DOKKUMEL_SHARED(d, 16), output, 16, &taken));
 }
 
@@ -69,10 +71,10 @@ static void blocks_at(size_t d, size_t bytes)
 	size_t keys = DOKKUMEL_SHARED(d, bytes), len = DOKKUMEL_SHARED(d, 16), taken = 0;
 
 	secrets();
-	made(dokkumel_encrypt(d, key, keys, block, len, tape, sizeof tape, output, len, &taken));
-	made(dokkumel_decrypt(d, key, keys, block, len, tape, sizeof tape, output, len, &taken));
-	made(dokkumel_prepare(d, key, keys, tape, sizeof tape, output, DOKKUMEL_PREPARED(d, bytes), &taken));
-	made(dokkumel_encrypt_prepared(d, prepared, DOKKUMEL_PREPARED(d, bytes), block, len, tape, sizeof tape, output, len, &taken));
+	made(dokkumel_encrypt(d, key, keys, block, len, DRAWN, output, len, &taken));
+	made(dokkumel_decrypt(d, key, keys, block, len, DRAWN, output, len, &taken));
+	made(dokkumel_prepare(d, key, keys, DRAWN, output, DOKKUMEL_PREPARED(d, bytes), &taken));
+	made(dokkumel_encrypt_prepared(d, prepared, DOKKUMEL_PREPARED(d, bytes), block, len, DRAWN, output, len, &taken));
 }
 
 /* A jump that depends on a key byte: memcheck must tell of it. */

@@ -19,10 +19,13 @@ use Rattle.shares.specs.Calls.{Join-outcome, unused}
 use Rattle.outcomes.proofs.OutcomeLaws.{all, _and_, settled-taken, settled-passed, le-reaches}
 use Rattle.outcomes.proofs.LengthsLaws.{share-length-16}
 use Rattle.shares.proofs.StringsLaws.{shares-of, laid-length}
+use Rattle.tape_words.specs.Words.{bytes-of, words-for}
+use Rattle.tape_words.proofs.WordsLaws.{bytes-drop, words-add}
 use Rattle.cipher.specs.Fips197.{rounds, key-expansion, cipher-with, cipher, inv-cipher}
 use Rattle.cipher.specs.Cipher.{schedule-need, prepared-laid, encrypted-with-need, encrypted-with-laid, cipher-need, encrypted-laid, decrypted-laid}
 use Rattle.cipher.proofs.Accuracy.{schedule-shared, encrypted-with-shared, encrypted-shared, decrypted-shared, prepared-joins-laid}
 use Rattle.cipher.proofs.Accuracy.{encrypted-with-joins-laid, cipher-joins-laid, inv-cipher-joins-laid, encrypted-from-prepared}
+use Rattle.cipher.proofs.NeedLaws.{schedule-whole}
 use Rattle.lengths.specs.Previews.{Keyed, Block-tests}
 use Rattle.lengths.proofs.PreviewsLaws.{block-passed, preparation-passed}
 use Rattle.lengths.specs.Lengths.{key-words, prepared-length, prepared-words}
@@ -75,7 +78,7 @@ pub record Carried (w : Direction) (d : ℕ) (j : Count) (k x shares : List ℕ)
   pub is-served : served d ≡ true
   pub some : 0 < key-words d (length k)
   pub input-long : length x ≡ suc d * 16
-  pub counted : j ≡ took (cipher-need (key-words d (length k)) d)
+  pub counted : j ≡ took (words-for (cipher-need (key-words d (length k)) d))
   pub long : length shares ≡ suc d * 16
   pub joins : joined-string (parts (suc d) 16 shares) ≡ cipher-of w (key-words d (length k)) (key-joined d k) (joined-string (parts (suc d) 16 x))
 
@@ -83,16 +86,16 @@ pub single-carried : (w : Direction) (d : ℕ) (j : Count) (k x ts o shares : Li
     → Carried w d j k x shares
 single-carried w d j k x ts o shares e =
     let nk = key-words d (length k) in
-    let g = settled-taken _ _ o (laid-of w nk d k x ts) j shares (single-is w d k x ts o ∙ e) in
-    let t = block-passed nk (cipher-need nk d) d (length x) (length ts) (length o) (g .0) in
+    let g = settled-taken _ _ o (laid-of w nk d k x (bytes-of ts)) j shares (single-is w d k x ts o ∙ e) in
+    let t = block-passed nk (words-for (cipher-need nk d)) d (length x) (length ts) (length o) (g .0) in
     let lk = key-length d (length k) (t .some) in
     record {
       is-served = t .served-order;
       some = t .some;
       input-long = t .input;
       counted = g .1;
-      long = ap length (g .2) ∙ length-laid-of w nk d k x ts (t .some) lk (t .input);
-      joins = ap (λ (s : List ℕ). joined-string (parts (suc d) 16 s)) (g .2) ∙ laid-of-joins w nk d k x ts (t .some) lk (t .input);
+      long = ap length (g .2) ∙ length-laid-of w nk d k x (bytes-of ts) (t .some) lk (t .input);
+      joins = ap (λ (s : List ℕ). joined-string (parts (suc d) 16 s)) (g .2) ∙ laid-of-joins w nk d k x (bytes-of ts) (t .some) lk (t .input);
     }
 
 single-then-join : (w : Direction) (d : ℕ) (j : Count) (k x ts o shares p : List ℕ) → Single-outcome w d k x ts o ≡ done j shares → length p ≡ 16
@@ -119,10 +122,10 @@ pub prepare-joins : (d : ℕ) (j : Count) (k ts o keys : List ℕ) → Prepare-o
 unfolding Prepare-outcome
 prepare-joins d j k ts o keys e =
     let nk = key-words d (length k) in
-    let g = settled-taken _ _ o (prepared-laid nk d k ts) j keys e in
+    let g = settled-taken _ _ o (prepared-laid nk d k (bytes-of ts)) j keys e in
     let some = preparation-passed d (length k) (length ts) (length o) (g .0) .some in
     ap (λ (s : List ℕ). joined-string (parts (suc d) (16 * suc (rounds nk)) s)) (g .2)
-    ∙ prepared-joins-laid nk d k ts some (key-length d (length k) some)
+    ∙ prepared-joins-laid nk d k (bytes-of ts) some (key-length d (length k) some)
 
 -- whatever bytes were prepared, `join` makes of what `encrypt_prepared` puts out FIPS 197's rounds with what they join to as round keys
 pub encrypt-prepared-then-join : (d : ℕ) (j : Count) (ks x ts o shares p : List ℕ)
@@ -134,15 +137,16 @@ pub encrypt-prepared-then-join : (d : ℕ) (j : Count) (ks x ts o shares p : Lis
 unfolding Encrypt-prepared-outcome prepared-length
 encrypt-prepared-then-join d j ks x ts o shares p e h =
     let nk = prepared-words d (length ks) in
-    let g = settled-taken _ _ o (encrypted-with-laid nk d ks x ts) j shares e in
-    let t = block-passed nk (encrypted-with-need nk d) d (length x) (length ts) (length o) (g .0) in
+    let g = settled-taken _ _ o (encrypted-with-laid nk d ks x (bytes-of ts)) j shares e in
+    let t = block-passed nk (words-for (encrypted-with-need nk d)) d (length x) (length ts) (length o) (g .0) in
     let lk : length ks ≡ suc d * (16 * suc (rounds nk)) = prepared-long d (length ks) (t .some) in
-    join-block d shares p (t .served-order) (ap length (g .2) ∙ length-encrypted-with nk d ks x ts lk (t .input)) h
-    ∙ ap (done (took 0)) (ap (λ (s : List ℕ). joined-string (parts (suc d) 16 s)) (g .2) ∙ encrypted-with-joins-laid nk d ks x ts lk (t .input))
+    join-block d shares p (t .served-order) (ap length (g .2) ∙ length-encrypted-with nk d ks x (bytes-of ts) lk (t .input)) h
+    ∙ ap (done (took 0))
+    (ap (λ (s : List ℕ). joined-string (parts (suc d) 16 s)) (g .2) ∙ encrypted-with-joins-laid nk d ks x (bytes-of ts) lk (t .input))
 
 -- ---- the two routes agree
 
--- a block that needs n bytes more is the block on the tape from n on, with n bytes drawn before
+-- a block that needs n words more is the block on the tape from n on, with n words drawn before
 block-after : (n nk d x t o need : ℕ) (q made : List ℕ) → n ≤ t
     → settled (Keyed d nk (Block-tests (n + need) d x t o)) (took (n + need)) q made
     ≡ after n (settled (Keyed d nk (Block-tests need d x (t - n) o)) (took need) q made)
@@ -170,45 +174,53 @@ block-after n nk d x t o need q made h = rw short (go (served d) (ltb 0 nk) (eqb
     go true true true true false = refl
     go true true true true true = refl
 
--- preparing, and then encrypting on the unused tape, is the single call: the very shares, the counts added, and the same refusals
+-- preparing, and then encrypting on the unused words, is the single call: the very shares, the counts added, and the same refusals
 pub prepare-then-encrypt : (d : ℕ) (n : Count) (k x ts o keys out : List ℕ) → Prepare-outcome d k ts o ≡ done n keys
     → Encrypt-outcome d k x ts out ≡ after (n .taken) (Encrypt-prepared-outcome d keys x (unused ts (n .taken)) out)
 unfolding Encrypt-outcome Prepare-outcome Encrypt-prepared-outcome cipher-need unused
 prepare-then-encrypt d n k x ts o keys out e =
     let nk = key-words d (length k) in
-    let g = settled-taken _ _ o (prepared-laid nk d k ts) n keys e in
+    let with-words : ℕ → ℕ = λ m. words-for (encrypted-with-need m d) in
+    let bs = bytes-of ts in
+    let rest = bytes-of (drop (n .taken) ts) in
+    let g = settled-taken _ _ o (prepared-laid nk d k bs) n keys e in
     let t = preparation-passed d (length k) (length ts) (length o) (g .0) in
     let lk = key-length d (length k) (t .some) in
-    let count : n .taken ≡ schedule-need nk d = ap (λ (c : Count). c .taken) (g .1) in
+    let whole = schedule-whole nk d in
+    let count : n .taken ≡ words-for (schedule-need nk d) = ap (λ (c : Count). c .taken) (g .1) in
     let words : prepared-words d (length keys) ≡ nk =
-    ap (prepared-words d) (ap length (g .2) ∙ length-prepared nk d k ts (t .some) lk) ∙ prepared-words-of d (key-sized d (length k) (t .some)) in
-    let made : encrypted-laid nk d k x ts ≡ encrypted-with-laid nk d keys x (drop (n .taken) ts) =
-    sym (encrypted-from-prepared nk d k x ts (t .some) lk)
-    ∙ ap₂ (λ (ks : List ℕ) (m : ℕ). encrypted-with-laid nk d ks x (drop m ts)) (sym (g .2)) (sym count) in
+    ap (prepared-words d) (ap length (g .2) ∙ length-prepared nk d k bs (t .some) lk) ∙ prepared-words-of d (key-sized d (length k) (t .some)) in
+    let left : drop (schedule-need nk d) bs ≡ rest =
+    ap (λ (m : ℕ). drop m bs) (sym whole ∙ ap (_*_ 4) (sym count)) ∙ sym (bytes-drop (n .taken) ts) in
+    let made : encrypted-laid nk d k x bs ≡ encrypted-with-laid nk d keys x rest =
+    sym (encrypted-from-prepared nk d k x bs (t .some) lk) ∙ ap₂ (λ (ks ts : List ℕ). encrypted-with-laid nk d ks x ts) (sym (g .2)) left in
+    let sum : words-for (schedule-need nk d + encrypted-with-need nk d) ≡ n .taken + with-words nk =
+    words-add (schedule-need nk d) (encrypted-with-need nk d) whole ∙ ap (λ (m : ℕ). m + with-words nk) (sym count) in
     ap₂
-    (λ (m : ℕ) (q : List ℕ). settled (Keyed d nk (Block-tests (m + encrypted-with-need nk d) d (length x) (length ts) (length out)))
-    (took (m + encrypted-with-need nk d)) out q)
-    (sym count)
+    (λ (m : ℕ) (q : List ℕ). settled (Keyed d nk (Block-tests m d (length x) (length ts) (length out))) (took m) out q)
+    sum
     made
-    ∙ block-after (n .taken) nk d (length x) (length ts) (length out) (encrypted-with-need nk d) out
-    (encrypted-with-laid nk d keys x (drop (n .taken) ts)) (omega (arith, t .drawn))
+    ∙ block-after (n .taken) nk d (length x) (length ts) (length out) (with-words nk) out (encrypted-with-laid nk d keys x rest)
+    (omega (arith, t .drawn))
     ∙ ap (after (n .taken))
     (ap₂
-    (λ (l m : ℕ). settled (Keyed d m (Block-tests (encrypted-with-need m d) d (length x) l (length out))) (took (encrypted-with-need m d)) out
-    (encrypted-with-laid m d keys x (drop (n .taken) ts)))
+    (λ (l m : ℕ). settled (Keyed d m (Block-tests (with-words m) d (length x) l (length out))) (took (with-words m)) out
+    (encrypted-with-laid m d keys x rest))
     (sym (length-drop (n .taken) ts))
     (sym words))
 
 -- where the single call is carried through, so is the preparation, into a buffer of the right length
 pub encrypt-prepares : (d : ℕ) (j : Count) (k x ts out shares o : List ℕ) → Encrypt-outcome d k x ts out ≡ done j shares
     → length o ≡ prepared-length (key-words d (length k)) d
-    → Prepare-outcome d k ts o ≡ done (took (schedule-need (key-words d (length k)) d)) (prepared-laid (key-words d (length k)) d k ts)
+    → Prepare-outcome d k ts o
+    ≡ done (took (words-for (schedule-need (key-words d (length k)) d))) (prepared-laid (key-words d (length k)) d k (bytes-of ts))
 unfolding Encrypt-outcome Prepare-outcome cipher-need
 encrypt-prepares d j k x ts out shares o e h =
     let nk = key-words d (length k) in
-    let g = settled-taken _ _ out (encrypted-laid nk d k x ts) j shares e in
-    let t = block-passed nk (schedule-need nk d + encrypted-with-need nk d) d (length x) (length ts) (length out) (g .0) in
-    let fits : schedule-need nk d ≤ length ts = omega (arith, t .drawn) in
+    let g = settled-taken _ _ out (encrypted-laid nk d k x (bytes-of ts)) j shares e in
+    let t = block-passed nk (words-for (schedule-need nk d + encrypted-with-need nk d)) d (length x) (length ts) (length out) (g .0) in
+    let sum = words-add (schedule-need nk d) (encrypted-with-need nk d) (schedule-whole nk d) in
+    let fits : words-for (schedule-need nk d) ≤ length ts = omega (arith, sum, t .drawn) in
     settled-passed _ o _
     (t .served-order and lt-ltb 0 nk (t .some) and eq-eqb (length o) (prepared-length nk d) h and le-reaches (length ts)
-    (schedule-need nk d) fits and all)
+    (words-for (schedule-need nk d)) fits and all)

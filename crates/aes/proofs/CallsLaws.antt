@@ -9,7 +9,8 @@ use Rattle.gf256.specs.declared.Direction.{Direction}
 use Rattle.gf256.specs.declared.Direction.the-variants.{Forward, Inverse}
 use Rattle.shares.specs.Strings.{Shares, parts, laid}
 use Rattle.shares.proofs.StringsLaws.{shared-parts, parts-laid}
-use Rattle.shares.proofs.WriteLaws.{part-rest}
+use Rattle.tape_words.specs.Words.{bytes-of, words-for}
+use Rattle.tape_words.proofs.WordsLaws.{bytes-rest}
 use Rattle.cipher.specs.Fips197.{rounds}
 use Rattle.cipher.specs.Cipher.{schedule, schedule-need, prepared-laid, encrypted-with, encrypted-with-laid, cipher-need, encrypted, encrypted-laid}
 use Rattle.cipher.specs.Cipher.{decrypted, decrypted-laid}
@@ -44,21 +45,22 @@ unfolding encrypted-laid encrypted decrypted-laid decrypted
 block-laid Forward nk d k x ts = refl
 block-laid Inverse nk d k x ts = refl
 
--- a block, from the two calls that make it
-pub block-made : (w : Direction) (nk d n : ℕ) (k x ts keys q : List ℕ) → 1 ≤ nk → length k ≡ suc d * (4 * nk)
-    → keys ≡ laid (schedule nk d (parts (suc d) (4 * nk) k) ts) → n ≡ schedule-need nk d
-    → q ≡ laid (with-of w nk d (parts (suc d) (16 * suc (rounds nk)) keys) (parts (suc d) 16 x) (take (length ts - n) (drop n ts)))
-    → q ≡ laid-of w nk d k x ts
-block-made w nk d n k x ts keys q h l e m g =
+-- a block, from the two calls that make it: the first draws n words
+pub block-made : (w : Direction) (nk d n : ℕ) (k x ws keys q : List ℕ) → 1 ≤ nk → length k ≡ suc d * (4 * nk)
+    → keys ≡ laid (schedule nk d (parts (suc d) (4 * nk) k) (bytes-of ws)) → 4 * n ≡ schedule-need nk d
+    → q ≡ laid (with-of w nk d (parts (suc d) (16 * suc (rounds nk)) keys) (parts (suc d) 16 x) (bytes-of (take (length ws - n) (drop n ws))))
+    → q ≡ laid-of w nk d k x (bytes-of ws)
+block-made w nk d n k x ws keys q h l e m g =
+    let ts = bytes-of ws in
     let back = ap (parts (suc d) (16 * suc (rounds nk))) e ∙ parts-laid (schedule-shared nk ts h (shared-parts d (4 * nk) k (omega arith))) in
-    let rest : take (length ts - n) (drop n ts) ≡ drop (schedule-need nk d) ts = part-rest ts n ∙ ap (λ (b : ℕ). drop b ts) m in
+    let rest : bytes-of (take (length ws - n) (drop n ws)) ≡ drop (schedule-need nk d) ts = bytes-rest n ws ∙ ap (λ (b : ℕ). drop b ts) m in
     g ∙ ap₂ (λ (ks : Shares) (t : List ℕ). laid (with-of w nk d ks (parts (suc d) 16 x) t)) back rest ∙ block-laid w nk d k x ts
 
 -- ---- either single call, by its direction
 
 pub single-is : (w : Direction) (d : ℕ) (k x ts o : List ℕ)
-    → settled (Single-tests d (length k) (length x) (length ts) (length o)) (took (cipher-need (key-words d (length k)) d)) o
-    (laid-of w (key-words d (length k)) d k x ts)
+    → settled (Single-tests d (length k) (length x) (length ts) (length o)) (took (words-for (cipher-need (key-words d (length k)) d))) o
+    (laid-of w (key-words d (length k)) d k x (bytes-of ts))
     ≡ Single-outcome w d k x ts o
 unfolding Encrypt-outcome Decrypt-outcome
 single-is Forward d k x ts o = refl

@@ -13,6 +13,7 @@ use Rattle.outcomes.specs.declared.Answer.{Answer}
 use Rattle.outcomes.specs.declared.Answer.the-variants.{Taken, Refused}
 use Rattle.outcomes.specs.Outcome.{Outcome, done, refused, outcome, Test, test, took, answered, ended, settled, served, reaches}
 use Rattle.outcomes.proofs.OutcomeLaws.{outcome-answer, settled-same, settled-past}
+use Rattle.tape_words.specs.Words.{words-for}
 use Rattle.cipher.specs.Cipher.{schedule-need, encrypted-with-need, cipher-need}
 use Rattle.lengths.specs.Lengths.{Key-size, prepared-length}
 use Rattle.lengths.specs.Previews.{Encrypt-preview, Decrypt-preview, Prepare-preview, Encrypt-prepared-preview}
@@ -93,30 +94,30 @@ module _ {nk : ℕ} (d t : ℕ) (size : Key-size nk) (is-served : served d ≡ t
   block = eq-eqb (suc d * 16) (suc d * 16) refl
 
   pub encrypt-by-tape : Encrypt-preview d (suc d * (4 * nk)) (suc d * 16) t (suc d * 16)
-      ≡ cond (ltb t (cipher-need nk d)) (refused 5 []) (done (took (cipher-need nk d)) [])
+      ≡ cond (ltb t (words-for (cipher-need nk d))) (refused 5 []) (done (took (words-for (cipher-need nk d))) [])
   unfolding Encrypt-preview
   encrypt-by-tape =
       rw (key-words-of d size)
       (settled-past _ _ _ _ _ is-served ∙ settled-past _ _ _ _ _ some ∙ settled-past _ _ _ _ _ block ∙ settled-past _ _ _ _ _ block
-      ∙ by-tape t (cipher-need nk d))
+      ∙ by-tape t (words-for (cipher-need nk d)))
 
   pub decrypt-by-tape : Decrypt-preview d (suc d * (4 * nk)) (suc d * 16) t (suc d * 16)
-      ≡ cond (ltb t (cipher-need nk d)) (refused 5 []) (done (took (cipher-need nk d)) [])
+      ≡ cond (ltb t (words-for (cipher-need nk d))) (refused 5 []) (done (took (words-for (cipher-need nk d))) [])
   unfolding Decrypt-preview Encrypt-preview
   decrypt-by-tape = encrypt-by-tape
 
   pub prepare-by-tape : Prepare-preview d (suc d * (4 * nk)) t (prepared-length nk d)
-      ≡ cond (ltb t (schedule-need nk d)) (refused 5 []) (done (took (schedule-need nk d)) [])
+      ≡ cond (ltb t (words-for (schedule-need nk d))) (refused 5 []) (done (took (words-for (schedule-need nk d))) [])
   unfolding Prepare-preview
   prepare-by-tape =
       let room = eq-eqb (prepared-length nk d) (prepared-length nk d) refl in
       rw (key-words-of d size)
-      (settled-past _ _ _ _ _ is-served ∙ settled-past _ _ _ _ _ some ∙ settled-past _ _ _ _ _ room ∙ by-tape t (schedule-need nk d))
+      (settled-past _ _ _ _ _ is-served ∙ settled-past _ _ _ _ _ some ∙ settled-past _ _ _ _ _ room ∙ by-tape t (words-for (schedule-need nk d)))
 
   pub encrypt-prepared-by-tape : Encrypt-prepared-preview d (prepared-length nk d) (suc d * 16) t (suc d * 16)
-      ≡ cond (ltb t (encrypted-with-need nk d)) (refused 5 []) (done (took (encrypted-with-need nk d)) [])
+      ≡ cond (ltb t (words-for (encrypted-with-need nk d))) (refused 5 []) (done (took (words-for (encrypted-with-need nk d))) [])
   unfolding Encrypt-prepared-preview
   encrypt-prepared-by-tape =
       rw (prepared-words-of d size)
       (settled-past _ _ _ _ _ is-served ∙ settled-past _ _ _ _ _ some ∙ settled-past _ _ _ _ _ block ∙ settled-past _ _ _ _ _ block
-      ∙ by-tape t (encrypted-with-need nk d))
+      ∙ by-tape t (words-for (encrypted-with-need nk d)))

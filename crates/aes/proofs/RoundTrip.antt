@@ -17,6 +17,8 @@ use Rattle.outcomes.proofs.LengthsLaws.{share-length-16}
 use Rattle.shares.proofs.CallsLaws.{split-passed}
 use Rattle.shares.proofs.StringsLaws.{shares-of, length-joined}
 use Rattle.shares.proofs.RoundTrip.{split-laid-joins}
+use Rattle.tape_words.specs.Words.{bytes-of, words-for}
+use Rattle.tape_words.proofs.WordsLaws.{words-reach}
 use Rattle.cipher.specs.Fips197.{inv-cipher}
 use Rattle.cipher.specs.Cipher.{cipher-need, decrypted-laid}
 use Rattle.cipher.proofs.InverseCipherLaws.{inv-cipher-undoes, joined-parts-below}
@@ -60,17 +62,17 @@ module _ (d : ℕ) (j : Count) (k x ts o c : List ℕ) (key-bytes : Below 256 k)
 
   -- at one order the decryption is carried through, on as much tape as the encryption took
   pub decrypt-carried : (k′ ts′ o′ : List ℕ) → Same-key d d k k′ → j .taken ≤ length ts′ → length o′ ≡ suc d * 16
-      → Decrypt-outcome d k′ c ts′ o′ ≡ done j (decrypted-laid (key-words d (length k′)) d k′ c ts′)
+      → Decrypt-outcome d k′ c ts′ o′ ≡ done j (decrypted-laid (key-words d (length k′)) d k′ c (bytes-of ts′))
   unfolding Decrypt-outcome
   decrypt-carried k′ ts′ o′ same h long =
       let nk = key-words d (length k′) in
-      let made = decrypted-laid nk d k′ c ts′ in
+      let made = decrypted-laid nk d k′ c (bytes-of ts′) in
       let some : 0 < nk = subst (λ (n : ℕ). 0 < n) (sym (same .words)) (went .some) in
-      let need : took (cipher-need nk d) ≡ j = ap (λ (n : ℕ). took (cipher-need n d)) (same .words) ∙ sym (went .counted) in
-      let count : cipher-need nk d ≡ j .taken = ap (λ (c : Count). c .taken) need in
+      let need : took (words-for (cipher-need nk d)) ≡ j = ap (λ (n : ℕ). took (words-for (cipher-need n d))) (same .words) ∙ sym (went .counted) in
+      let count : words-for (cipher-need nk d) ≡ j .taken = ap (λ (c : Count). c .taken) need in
       settled-passed _ o′ made
       (went .is-served and lt-ltb 0 nk some and eq-eqb (length c) (suc d * 16) (went .long) and eq-eqb (length o′) (suc d * 16) long
-      and le-reaches (length ts′) (cipher-need nk d) (omega (arith, count)) and all)
+      and le-reaches (length ts′) (words-for (cipher-need nk d)) (omega (arith, count)) and all)
       ∙ ap (λ (n : Count). done n made) need
 
   -- and what it puts out joins to the block
@@ -96,7 +98,8 @@ module _ (d : ℕ) (j : Count) (k x ts o c : List ℕ) (key-bytes : Below 256 k)
       let g = settled-taken _ _ o″ _ m y splits in
       let t = split-passed e (length block) (length rs) (length o″) (g .0) in
       let one : share-length 1 (length block) ≡ length block = ap (share-length 1) sized ∙ share-length-16 1 ∙ sym sized in
-      let enough : split-need e (length block) ≤ length rs = subst (λ (l : ℕ). split-need e l ≤ length rs) one (t .drawn) in
+      let us = bytes-of rs in
+      let enough : split-need e (length block) ≤ length us = subst (λ (l : ℕ). split-need e l ≤ length us) one (words-reach _ rs (t .drawn)) in
       let again : joined-string (parts (suc e) 16 y) ≡ block =
-      ap₂ (λ (l : ℕ) (s : List ℕ). joined-string (parts (suc e) l s)) (sym sized) (g .2) ∙ split-laid-joins e block rs enough in
+      ap₂ (λ (l : ℕ) (s : List ℕ). joined-string (parts (suc e) l s)) (sym sized) (g .2) ∙ split-laid-joins e block us enough in
       decrypts e i k′ y ts′ o′ p q same (again ∙ whole) back long

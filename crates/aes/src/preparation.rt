@@ -8,7 +8,7 @@ use outcomes::Answer;
 use outcomes::Count;
 
 // The masked key expansion, once: round keys 0 to Nr of share 0, then those of share 1, and so on.
-pub fn prepare(order: usize, key: &[u8], tape: &[u8], output: &mut [u8]) -> Answer
+pub fn prepare(order: usize, key: &[u8], tape: &[u32], output: &mut [u8]) -> Answer
     ensures { λ r. ⌜ outcome r (now (output .exit)) ≡ Prepare-outcome order (now (key .entry)) (now (tape .entry)) (now (output .entry)) ⌝ }
 {
     let answer = lengths::answers::preparation_answer(order, key.len(), tape.len(), output.len());
@@ -28,7 +28,7 @@ pub fn encrypt_prepared(
     order: usize,
     prepared: &[u8],
     input: &[u8],
-    tape: &[u8],
+    tape: &[u32],
     output: &mut [u8],
 ) -> Answer
     ensures { λ r. ⌜ outcome r (now (output .exit))

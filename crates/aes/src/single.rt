@@ -3,6 +3,7 @@ ghost use mathlib.Core.Path.{_≡_};
 ghost use Prim.Native.Nat.{suc, _*_};
 ghost use lib.ListN.{length};
 ghost use Rattle.gf256.specs.Tables.{Tables};
+ghost use Rattle.tape_words.specs.Words.{bytes-of};
 ghost use Rattle.outcomes.specs.Outcome.{outcome};
 ghost use Rattle.cipher.specs.Fips197.{rounds};
 ghost use Rattle.cipher.specs.Cipher as Cipher;
@@ -25,14 +26,14 @@ fn block_with(
     d: usize,
     key: &[u8],
     input: &[u8],
-    tape: &[u8],
+    tape: &[u32],
     keys: &mut [u8],
     output: &mut [u8],
 ) -> usize
-    requires { ⌜ Block-fits nk d (now key) (now input) (now tape) (now output) × (length (now keys) ≡ suc d * (16 * suc (rounds nk)))
+    requires { ⌜ Block-fits nk d (now key) (now input) (bytes-of (now tape)) (now output) × (length (now keys) ≡ suc d * (16 * suc (rounds nk)))
         × Tables (now logs) (now antilogs) ⌝ }
-    ensures { λ r. ⌜ (r ≡ Cipher.cipher-need nk d)
-        × (now (output .exit) ≡ laid-of which nk d (now (key .entry)) (now (input .entry)) (now (tape .entry))) ⌝ }
+    ensures { λ r. ⌜ (4 * r ≡ Cipher.cipher-need nk d)
+        × (now (output .exit) ≡ laid-of which nk d (now (key .entry)) (now (input .entry)) (bytes-of (now (tape .entry)))) ⌝ }
 {
     let drawn = schedule::expansion::expand_core(logs, antilogs, nk, d, key, tape, keys);
     drawn
@@ -58,12 +59,12 @@ fn block_core(
     d: usize,
     key: &[u8],
     input: &[u8],
-    tape: &[u8],
+    tape: &[u32],
     output: &mut [u8],
 ) -> usize
-    requires { ⌜ Block-fits nk d (now key) (now input) (now tape) (now output) × Tables (now logs) (now antilogs) ⌝ }
-    ensures { λ r. ⌜ (r ≡ Cipher.cipher-need nk d)
-        × (now (output .exit) ≡ laid-of which nk d (now (key .entry)) (now (input .entry)) (now (tape .entry))) ⌝ }
+    requires { ⌜ Block-fits nk d (now key) (now input) (bytes-of (now tape)) (now output) × Tables (now logs) (now antilogs) ⌝ }
+    ensures { λ r. ⌜ (4 * r ≡ Cipher.cipher-need nk d)
+        × (now (output .exit) ≡ laid-of which nk d (now (key .entry)) (now (input .entry)) (bytes-of (now (tape .entry)))) ⌝ }
 {
     let mut keys = [0u8; 2160];
     let size = sizes::prepared_length(nk, d);
@@ -87,7 +88,7 @@ fn call(
     order: usize,
     key: &[u8],
     input: &[u8],
-    tape: &[u8],
+    tape: &[u32],
     output: &mut [u8],
 ) -> Answer
     ensures { λ r. ⌜ outcome r (now (output .exit))
@@ -111,14 +112,14 @@ fn call(
     })
 }
 
-pub fn encrypt(order: usize, key: &[u8], input: &[u8], tape: &[u8], output: &mut [u8]) -> Answer
+pub fn encrypt(order: usize, key: &[u8], input: &[u8], tape: &[u32], output: &mut [u8]) -> Answer
     ensures { λ r. ⌜ outcome r (now (output .exit))
         ≡ Encrypt-outcome order (now (key .entry)) (now (input .entry)) (now (tape .entry)) (now (output .entry)) ⌝ }
 {
     call(Direction::Forward, order, key, input, tape, output)
 }
 
-pub fn decrypt(order: usize, key: &[u8], input: &[u8], tape: &[u8], output: &mut [u8]) -> Answer
+pub fn decrypt(order: usize, key: &[u8], input: &[u8], tape: &[u32], output: &mut [u8]) -> Answer
     ensures { λ r. ⌜ outcome r (now (output .exit))
         ≡ Decrypt-outcome order (now (key .entry)) (now (input .entry)) (now (tape .entry)) (now (output .entry)) ⌝ }
 {

@@ -1,10 +1,12 @@
 -- A loop whose steps draw, on a string in shares that stands in a buffer, share after share: `DrawingLaws` of cipher, with the buffer's length.
 -- Assumes nothing.
-use mathlib.Core.Path.{_≡_, sym, ap, _∙_}
+use mathlib.Core.Path.{_≡_, sym, ap, _∙_, subst}
 use mathlib.Core.List.{List}
 use Prim.Native.Nat.{ℕ, suc, _+_, _*_, _-_, _≤_, _<_}
 use native.Mathlib.Omega.{arith}
 use lib.ListN.{length, take, drop}
+use Rattle.tape_words.specs.Words.{bytes-of}
+use Rattle.tape_words.proofs.WordsLaws.{bytes-part}
 use Rattle.shares.specs.Strings.{Shares, Shared, parts, laid}
 use Rattle.shares.proofs.StringsLaws.{laid-length, parts-laid, shared-parts}
 use Rattle.cipher.proofs.DrawingLaws.{Loop, Drawing, drawing-start, drawing-room, drawing-more, drawing-taken, drawing-done}
@@ -43,3 +45,16 @@ module _ {n : ℕ} {loop : Loop Shares n} {start d l : ℕ} {tape s₀ : List �
 
   pub buffered-done : m ≡ n → s ≡ laid (loop .left start (parts (suc d) l s₀) tape)
   buffered-done e = sym (laid-parts-all (suc d) l s (so-far .long)) ∙ ap laid (drawing-done (so-far .drawing) e)
+
+-- ---- the same on a tape of words
+
+module _ {n : ℕ} {loop : Loop Shares n} {start d l : ℕ} {s₀ : List ℕ} {m : ℕ} {s : List ℕ} (words : List ℕ) (taken : ℕ)
+    (so-far : Buffered loop start d l (bytes-of words) s₀ m (4 * taken) s) where
+  -- a step that keeps the shape and draws whole words, on the part of them that its callee got
+  pub buffered-words : (q : ℕ) (s′ : List ℕ) → m < n → ((ss : Shares) (ts : List ℕ) → Shared l d ss → Shared l d (loop .step m ss ts))
+      → 4 * q ≡ loop .cost m → s′ ≡ laid (loop .step m (parts (suc d) l s) (bytes-of (take (length words - taken) (drop taken words))))
+      → Buffered loop start d l (bytes-of words) s₀ (m + 1) (4 * (taken + q)) s′
+  buffered-words q s′ u keeps eq e =
+      let sum : 4 * taken + 4 * q ≡ 4 * (taken + q) = omega arith in
+      subst (λ (k : ℕ). Buffered loop start d l (bytes-of words) s₀ (m + 1) k s′) sum
+      (buffered-more so-far (4 * q) s′ u keeps eq (e ∙ ap (λ (ts : List ℕ). laid (loop .step m (parts (suc d) l s) ts)) (bytes-part taken words)))

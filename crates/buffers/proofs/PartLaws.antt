@@ -11,7 +11,7 @@ use Rattle.xor.specs.Lists.{at, tab, runs}
 use Rattle.xor.proofs.ListsLaws.{tab-last}
 use Rattle.shares.specs.Strings.{Shares, Shared, alone, more, parts, laid}
 use Rattle.shares.proofs.StringsLaws.{laid-parts, shared-parts}
-use Rattle.shares.proofs.WriteLaws.{over, over-all}
+use Rattle.xor.proofs.WriteLaws.{over, over-all}
 use Rattle.cipher.specs.States.{column, put}
 
 -- ---- numbers

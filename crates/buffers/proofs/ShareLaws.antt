@@ -9,8 +9,8 @@ use borrow.Rule.Slice.PartMut.{putMid}
 use lib.ListN.{length, take, drop, length-append, length-drop, drop-of-length-le}
 use lib.Seq.{drop-drop, take-at, drop-at, length-take-le}
 use Rattle.shares.specs.Strings.{Shares, more, parts, laid}
-use Rattle.shares.specs.Writes.{front}
-use Rattle.shares.proofs.WriteLaws.{front-all}
+use Rattle.xor.specs.Writes.{front}
+use Rattle.xor.proofs.WriteLaws.{front-all}
 use Rattle.cipher.specs.States.{each-by}
 use Rattle.buffers.proofs.PartLaws.{parts-count, parts-last}
 

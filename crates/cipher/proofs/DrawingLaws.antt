@@ -2,12 +2,14 @@
 -- instances: S-boxes of listed bytes, words of the key expansion, rounds. Assumes nothing.
 use mathlib.Core.Path.{_≡_, refl, sym, ap, ap₂, _∙_, subst}
 use mathlib.Core.List.{List, _++_}
-use Prim.Native.Nat.{ℕ, zero, suc, _+_, _-_, _≤_, _<_}
+use Prim.Native.Nat.{ℕ, zero, suc, _+_, _*_, _-_, _≤_, _<_}
 use native.Mathlib.Omega.{arith}
 use native.Mathlib.Numerals.{add-one}
 use lib.ListN.{length, take, drop, length-drop}
 use lib.Seq.{drop-append-le, drop-drop}
-use Rattle.shares.proofs.WriteLaws.{part-rest}
+use Rattle.xor.proofs.WriteLaws.{part-rest}
+use Rattle.tape_words.specs.Words.{bytes-of}
+use Rattle.tape_words.proofs.WordsLaws.{bytes-part}
 
 -- n steps on states of type A, from any of them on: step m draws `cost m` bytes; step m and those after it are `left m`, and draw `need m`
 pub record Loop (A : Type 0) (n : ℕ) : Type 0 where
@@ -102,3 +104,16 @@ module _ {A : Type 0} {n : ℕ} {loop : Loop A n} {start : ℕ} {a₀ : A} {tape
 
   pub drawing-done : m ≡ n → a ≡ loop .left start a₀ tape
   drawing-done e = sym (left-none loop m e a (drop taken tape)) ∙ so-far .same
+
+-- ---- the same on a tape of words, of which `taken` are drawn: each step draws whole words
+
+module _ {A : Type 0} {n : ℕ} {loop : Loop A n} {start : ℕ} {a₀ : A} {m : ℕ} {a : A} (words : List ℕ) (taken : ℕ)
+    (so-far : Drawing loop start a₀ (bytes-of words) m (4 * taken) a) where
+  -- the step, on the part of the words that its callee got
+  pub drawing-words : (q : ℕ) (a′ : A) → m < n → 4 * q ≡ loop .cost m
+      → a′ ≡ loop .step m a (bytes-of (take (length words - taken) (drop taken words)))
+      → Drawing loop start a₀ (bytes-of words) (m + 1) (4 * (taken + q)) a′
+  drawing-words q a′ u eq e =
+      let sum : 4 * taken + 4 * q ≡ 4 * (taken + q) = omega arith in
+      subst (λ (k : ℕ). Drawing loop start a₀ (bytes-of words) (m + 1) k a′) sum
+      (drawing-more so-far (4 * q) a′ u eq (e ∙ ap (loop .step m a) (bytes-part taken words)))

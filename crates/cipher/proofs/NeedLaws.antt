@@ -1,8 +1,8 @@
 -- How much tape each step takes, in closed form: document 01's counts and its table. Assumes nothing.
-use mathlib.Core.Path.{_≡_, refl, ap, _∙_}
+use mathlib.Core.Path.{_≡_, refl, sym, ap, _∙_, subst}
 use mathlib.Core.List.{List, [], _∷_, map}
 use Prim.Native.Nat.{ℕ, zero, suc, _+_, _*_, _-_}
-use native.Mathlib.Nat.{suc-mul}
+use native.Mathlib.Nat.{suc-mul, mul-assoc, mul-left-comm}
 use native.Mathlib.Omega.{arith}
 use Rattle.xor.specs.Lists.{tab, runs}
 use Rattle.xor.specs.Pairs.{before-row}
@@ -10,7 +10,9 @@ use Rattle.isw.specs.Place.{product-need}
 use Rattle.shares.specs.Refresh.{refresh-pairs, refresh-need}
 use Rattle.power254.specs.Power254.{stage-need, power-need}
 use Rattle.sbox.specs.Box.{box-need}
-use Rattle.cipher.specs.Fips197.{kind, rounds, total-words}
+use Rattle.tape_words.specs.Words.{words-for}
+use Rattle.tape_words.proofs.WordsLaws.{Whole, whole-four, whole-add}
+use Rattle.cipher.specs.Fips197.{Kind, turned, subbed, plain, kind, rounds, total-words}
 use Rattle.cipher.specs.Cipher.{subs-need, temp-need, schedule-from-need, schedule-need, round-need, rounds-need, encrypted-with-need}
 use Rattle.cipher.specs.Cipher.{cipher-need}
 
@@ -65,35 +67,62 @@ counted d = omega (
   encrypted-with-need-is 8 d,
 )
 
--- document 01's table: a row for each size of key, at orders 1, 2 and 8
-pub tape-table : map (λ nk. map (cipher-need nk) (1 ∷ 2 ∷ 8 ∷ [])) (4 ∷ 6 ∷ 8 ∷ [])
-    ≡ (1200 ∷ 3200 ∷ 32000 ∷ []) ∷ (1344 ∷ 3584 ∷ 35840 ∷ []) ∷ (1656 ∷ 4416 ∷ 44160 ∷ []) ∷ []
+-- ---- words: the key expansion, the rounds and a whole call take whole words, so what comes behind one of them starts at a fresh word
+
+temp-whole : (d : ℕ) (k : Kind) → Whole (temp-need d k)
+unfolding temp-need subs-need words-for
+temp-whole d turned = omega arith
+temp-whole d subbed = omega arith
+temp-whole d plain = refl
+
+schedule-from-whole : (l i nk d : ℕ) → Whole (schedule-from-need l i nk d)
+unfolding schedule-from-need
+schedule-from-whole zero i nk d = whole-four 0
+schedule-from-whole (suc l) i nk d = whole-add _ _ (temp-whole d (kind nk i)) (schedule-from-whole l (suc i) nk d)
+
+pub schedule-whole : (nk d : ℕ) → Whole (schedule-need nk d)
+unfolding schedule-need
+schedule-whole nk d = schedule-from-whole (total-words nk - nk) nk nk d
+
+pub encrypted-with-whole : (nk d : ℕ) → Whole (encrypted-with-need nk d)
+encrypted-with-whole nk d =
+    let e : encrypted-with-need nk d ≡ 4 * (rounds nk * (4 * box-need d)) =
+    encrypted-with-need-is nk d ∙ ap (_*_ (rounds nk)) (mul-assoc 4 4 (box-need d)) ∙ mul-left-comm (rounds nk) 4 (4 * box-need d) in
+    subst Whole (sym e) (whole-four (rounds nk * (4 * box-need d)))
+
+pub cipher-whole : (nk d : ℕ) → Whole (cipher-need nk d)
+unfolding cipher-need
+cipher-whole nk d = whole-add _ _ (schedule-whole nk d) (encrypted-with-whole nk d)
+
+-- document 01's table in words, as document 02, wish 6, restates it: a row for each size of key, at orders 1, 2 and 8
+pub tape-table : map (λ nk. map (λ d. words-for (cipher-need nk d)) (1 ∷ 2 ∷ 8 ∷ [])) (4 ∷ 6 ∷ 8 ∷ [])
+    ≡ (300 ∷ 800 ∷ 8000 ∷ []) ∷ (336 ∷ 896 ∷ 8960 ∷ []) ∷ (414 ∷ 1104 ∷ 11040 ∷ []) ∷ []
 unfolding cipher-need encrypted-with-need rounds-need schedule-need schedule-from-need temp-need kind subs-need rounds total-words power-need
-    stage-need refresh-need refresh-pairs product-need before-row tab runs
+    stage-need refresh-need refresh-pairs product-need before-row tab runs words-for
 tape-table = refl
 
--- ---- all that a call for a block or a key can take: a row for each order from 1 to 8, with keys of 16, 24 and 32 bytes
+-- ---- all that a call for a block or a key can take, in words: a row for each order from 1 to 8, with keys of 16, 24 and 32 bytes
 
 abbrev by-order : ((nk d : ℕ) → ℕ) → List (List ℕ)
-by-order need = map (λ d. map (λ nk. need nk d) (4 ∷ 6 ∷ 8 ∷ [])) (1 ∷ 2 ∷ 3 ∷ 4 ∷ 5 ∷ 6 ∷ 7 ∷ 8 ∷ [])
+by-order need = map (λ d. map (λ nk. words-for (need nk d)) (4 ∷ 6 ∷ 8 ∷ [])) (1 ∷ 2 ∷ 3 ∷ 4 ∷ 5 ∷ 6 ∷ 7 ∷ 8 ∷ [])
 
 pub preparation-table : by-order schedule-need
-    ≡ (240 ∷ 192 ∷ 312 ∷ []) ∷ (640 ∷ 512 ∷ 832 ∷ []) ∷ (1200 ∷ 960 ∷ 1560 ∷ []) ∷ (1920 ∷ 1536 ∷ 2496 ∷ []) ∷ (2800 ∷ 2240 ∷ 3640 ∷ [])
-    ∷ (3840 ∷ 3072 ∷ 4992 ∷ []) ∷ (5040 ∷ 4032 ∷ 6552 ∷ []) ∷ (6400 ∷ 5120 ∷ 8320 ∷ []) ∷ []
+    ≡ (60 ∷ 48 ∷ 78 ∷ []) ∷ (160 ∷ 128 ∷ 208 ∷ []) ∷ (300 ∷ 240 ∷ 390 ∷ []) ∷ (480 ∷ 384 ∷ 624 ∷ []) ∷ (700 ∷ 560 ∷ 910 ∷ [])
+    ∷ (960 ∷ 768 ∷ 1248 ∷ []) ∷ (1260 ∷ 1008 ∷ 1638 ∷ []) ∷ (1600 ∷ 1280 ∷ 2080 ∷ []) ∷ []
 unfolding cipher-need encrypted-with-need rounds-need schedule-need schedule-from-need temp-need kind subs-need rounds total-words power-need
-    stage-need refresh-need refresh-pairs product-need before-row tab runs
+    stage-need refresh-need refresh-pairs product-need before-row tab runs words-for
 preparation-table = refl
 
 pub rounds-table : by-order encrypted-with-need
-    ≡ (960 ∷ 1152 ∷ 1344 ∷ []) ∷ (2560 ∷ 3072 ∷ 3584 ∷ []) ∷ (4800 ∷ 5760 ∷ 6720 ∷ []) ∷ (7680 ∷ 9216 ∷ 10752 ∷ []) ∷ (11200 ∷ 13440 ∷ 15680 ∷ [])
-    ∷ (15360 ∷ 18432 ∷ 21504 ∷ []) ∷ (20160 ∷ 24192 ∷ 28224 ∷ []) ∷ (25600 ∷ 30720 ∷ 35840 ∷ []) ∷ []
+    ≡ (240 ∷ 288 ∷ 336 ∷ []) ∷ (640 ∷ 768 ∷ 896 ∷ []) ∷ (1200 ∷ 1440 ∷ 1680 ∷ []) ∷ (1920 ∷ 2304 ∷ 2688 ∷ []) ∷ (2800 ∷ 3360 ∷ 3920 ∷ [])
+    ∷ (3840 ∷ 4608 ∷ 5376 ∷ []) ∷ (5040 ∷ 6048 ∷ 7056 ∷ []) ∷ (6400 ∷ 7680 ∷ 8960 ∷ []) ∷ []
 unfolding cipher-need encrypted-with-need rounds-need schedule-need schedule-from-need temp-need kind subs-need rounds total-words power-need
-    stage-need refresh-need refresh-pairs product-need before-row tab runs
+    stage-need refresh-need refresh-pairs product-need before-row tab runs words-for
 rounds-table = refl
 
 pub single-table : by-order cipher-need
-    ≡ (1200 ∷ 1344 ∷ 1656 ∷ []) ∷ (3200 ∷ 3584 ∷ 4416 ∷ []) ∷ (6000 ∷ 6720 ∷ 8280 ∷ []) ∷ (9600 ∷ 10752 ∷ 13248 ∷ []) ∷ (14000 ∷ 15680 ∷ 19320 ∷ [])
-    ∷ (19200 ∷ 21504 ∷ 26496 ∷ []) ∷ (25200 ∷ 28224 ∷ 34776 ∷ []) ∷ (32000 ∷ 35840 ∷ 44160 ∷ []) ∷ []
+    ≡ (300 ∷ 336 ∷ 414 ∷ []) ∷ (800 ∷ 896 ∷ 1104 ∷ []) ∷ (1500 ∷ 1680 ∷ 2070 ∷ []) ∷ (2400 ∷ 2688 ∷ 3312 ∷ []) ∷ (3500 ∷ 3920 ∷ 4830 ∷ [])
+    ∷ (4800 ∷ 5376 ∷ 6624 ∷ []) ∷ (6300 ∷ 7056 ∷ 8694 ∷ []) ∷ (8000 ∷ 8960 ∷ 11040 ∷ []) ∷ []
 unfolding cipher-need encrypted-with-need rounds-need schedule-need schedule-from-need temp-need kind subs-need rounds total-words power-need
-    stage-need refresh-need refresh-pairs product-need before-row tab runs
+    stage-need refresh-need refresh-pairs product-need before-row tab runs words-for
 single-table = refl

@@ -1,4 +1,5 @@
--- Document 01's small values, those marked †, as one table and one theorem that antt computes. Assumes nothing.
+-- Document 01's small values, those marked †, as document 02, wish 6, restates them on words: one table, and one theorem that antt computes.
+-- Assumes nothing.
 use mathlib.Core.Path.{_≡_, refl}
 use mathlib.Core.List.{List, [], _∷_, map}
 use Prim.Native.Nat.{ℕ}
@@ -14,9 +15,10 @@ use Rattle.isw.specs.Place.{value, sheet, product}
 use Rattle.shares.specs.Refresh.{into, pairs-refreshed, refresh-pairs, refreshed, refresh-need}
 use Rattle.power254.specs.Power254.{stage-z, stage-y, stage-w, stage-v, stage-last, stage-need, power-254, power-need}
 use Rattle.sbox.specs.Box.{corrected, affine-shares, box, box-need}
+use Rattle.tape_words.specs.Words.{word-bytes, bytes-of, words-for}
 use Rattle.cipher.specs.Fips197.{cell, state, mix-columns}
 
--- bytes, and how many tape bytes were taken for them: what is computed, and what the document says
+-- bytes, and how many words of tape were taken for them: what is computed, and what the document says
 pub record Row : Type 0 where
   pub bytes : List ℕ
   pub taken : ℕ
@@ -33,17 +35,11 @@ said r = (r .said-bytes, r .said-taken)
 abbrev gives : (bytes said-bytes : List ℕ) → Row
 gives c s = record { bytes = c; taken = 0; said-bytes = s; said-taken = 0 }
 
-abbrev draws : (bytes : List ℕ) (taken : ℕ) (said-bytes : List ℕ) (said-taken : ℕ) → Row
-draws c n s m = record { bytes = c; taken = n; said-bytes = s; said-taken = m }
+abbrev draws : (bytes : List ℕ) (need : ℕ) (said-bytes : List ℕ) (said-taken : ℕ) → Row
+draws c n s m = record { bytes = c; taken = words-for n; said-bytes = s; said-taken = m }
 
 abbrev one : ℕ → List ℕ
 one x = x ∷ []
-
-abbrev zeros-6 : List ℕ
-zeros-6 = 0 ∷ 0 ∷ 0 ∷ 0 ∷ 0 ∷ 0 ∷ []
-
-abbrev zeros-16 : List ℕ
-zeros-16 = 0 ∷ 0 ∷ 0 ∷ 0 ∷ 0 ∷ 0 ∷ 0 ∷ 0 ∷ 0 ∷ 0 ∷ 0 ∷ 0 ∷ 0 ∷ 0 ∷ 0 ∷ 0 ∷ []
 
 abbrev pub small-values : List Row
 small-values =
@@ -56,19 +52,19 @@ small-values =
     ∷ gives (mix-column (0x01 ∷ 0x00 ∷ 0x00 ∷ 0x00 ∷ [])) (0x02 ∷ 0x01 ∷ 0x01 ∷ 0x03 ∷ [])
     ∷ gives (mix-columns (0x01 ∷ 0 ∷ 0 ∷ 0 ∷ 0 ∷ 0 ∷ 0 ∷ 0 ∷ 0 ∷ 0 ∷ 0 ∷ 0 ∷ 0 ∷ 0 ∷ 0 ∷ 0 ∷ []))
     (0x02 ∷ 0x01 ∷ 0x01 ∷ 0x03 ∷ 0 ∷ 0 ∷ 0 ∷ 0 ∷ 0 ∷ 0 ∷ 0 ∷ 0 ∷ 0 ∷ 0 ∷ 0 ∷ 0 ∷ [])
-    ∷ draws (refreshed 2 (0x10 ∷ 0x20 ∷ 0x30 ∷ []) (0x01 ∷ 0x02 ∷ [])) (refresh-need 2) (0x13 ∷ 0x21 ∷ 0x32 ∷ []) 2
-    ∷ draws (sheet times 1 (0x02 ∷ 0x03 ∷ []) (0x01 ∷ 0x04 ∷ []) (0x10 ∷ [])) (product-need 1)
+    ∷ draws (refreshed 2 (0x10 ∷ 0x20 ∷ 0x30 ∷ []) (bytes-of (0x00000201 ∷ []))) (refresh-need 2) (0x13 ∷ 0x21 ∷ 0x32 ∷ []) 1
+    ∷ draws (sheet times 1 (0x02 ∷ 0x03 ∷ []) (0x01 ∷ 0x04 ∷ []) (bytes-of (0x00000010 ∷ []))) (product-need 1)
     (0x02 ∷ 0x03 ∷ 0x01 ∷ 0x04 ∷ 0x10 ∷ 0x08 ∷ 0x18 ∷ 0x03 ∷ 0x1b ∷ 0x02 ∷ 0x12 ∷ 0x0c ∷ 0x17 ∷ []) 1
-    ∷ draws (product times 1 (0x02 ∷ 0x03 ∷ []) (0x01 ∷ 0x04 ∷ []) (0x10 ∷ [])) (product-need 1) (0x12 ∷ 0x17 ∷ []) 1
-    ∷ gives (one (joined (product times 1 (0x02 ∷ 0x03 ∷ []) (0x01 ∷ 0x04 ∷ []) (0x10 ∷ [])))) (one 0x05)
-    ∷ draws (box 1 (0x00 ∷ 0x00 ∷ []) zeros-6) (box-need 1) (0x00 ∷ 0x63 ∷ []) 6
-    ∷ draws (box 1 (0x01 ∷ 0x00 ∷ []) zeros-6) (box-need 1) (0x1f ∷ 0x63 ∷ []) 6
-    ∷ draws (box 2 (0x00 ∷ 0x00 ∷ 0x00 ∷ []) zeros-16) (box-need 2) (0x63 ∷ 0x63 ∷ 0x63 ∷ []) 16
+    ∷ draws (product times 1 (0x02 ∷ 0x03 ∷ []) (0x01 ∷ 0x04 ∷ []) (bytes-of (0x00000010 ∷ []))) (product-need 1) (0x12 ∷ 0x17 ∷ []) 1
+    ∷ gives (one (joined (product times 1 (0x02 ∷ 0x03 ∷ []) (0x01 ∷ 0x04 ∷ []) (bytes-of (0x00000010 ∷ []))))) (one 0x05)
+    ∷ draws (box 1 (0x00 ∷ 0x00 ∷ []) (bytes-of (0 ∷ 0 ∷ []))) (box-need 1) (0x00 ∷ 0x63 ∷ []) 2
+    ∷ draws (box 1 (0x01 ∷ 0x00 ∷ []) (bytes-of (0 ∷ 0 ∷ []))) (box-need 1) (0x1f ∷ 0x63 ∷ []) 2
+    ∷ draws (box 2 (0x00 ∷ 0x00 ∷ 0x00 ∷ []) (bytes-of (0 ∷ 0 ∷ 0 ∷ 0 ∷ []))) (box-need 2) (0x63 ∷ 0x63 ∷ 0x63 ∷ []) 4
     ∷ []
 
 pub small-values-right : map computed small-values ≡ map said small-values
 unfolding if-set doubled times-from times squared fourth sixteenth power inverse parity ones onesIn rows-from linear-by affine-by rows affine mixed
     mix-column cell state mix-columns at tab runs joined running skip half-sum other term row byte pair-places pair-row row-places places outputs
     before-row draw-index drawn product-need value sheet product into pairs-refreshed refresh-pairs refreshed refresh-need stage-z stage-y stage-w
-    stage-v stage-last stage-need power-254 corrected affine-shares box power-need
+    stage-v stage-last stage-need power-254 corrected affine-shares box power-need word-bytes bytes-of words-for
 small-values-right = refl

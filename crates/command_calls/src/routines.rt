@@ -46,7 +46,7 @@ fn call(
     order: usize,
     first: &[u8],
     second: &[u8],
-    tape: &[u8],
+    tape: &[u32],
     output: &mut [u8],
 ) -> Answer
     ensures { λ r. ⌜ outcome r (now (output .exit))
@@ -67,7 +67,7 @@ fn call(
 }
 
 // Calls the routine and prints its answer.
-fn run_in(c: Command, order: usize, first: &[u8], second: &[u8], tape: &[u8], output: &mut [u8]) {
+fn run_in(c: Command, order: usize, first: &[u8], second: &[u8], tape: &[u32], output: &mut [u8]) {
     let a = call(c, order, first, second, tape, output);
     match c {
         Command::EncryptPrepared => answers::print_on_prepared(a, output),
@@ -76,7 +76,7 @@ fn run_in(c: Command, order: usize, first: &[u8], second: &[u8], tape: &[u8], ou
 }
 
 // The same, with an output of the length that the routine wants.
-pub fn run(c: Command, order: usize, first: &[u8], second: &[u8], tape: &[u8]) {
+pub fn run(c: Command, order: usize, first: &[u8], second: &[u8], tape: &[u32]) {
     let mut output = io::buffer();
     let n = room(c, order, first.len());
     run_in(c, order, first, second, tape, &mut output[0..n]);

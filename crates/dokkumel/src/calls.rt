@@ -1,11 +1,11 @@
 // Commands that call a routine: ORDER, one or two inputs, and a tape are read in turn, and the first that cannot be read ends the run.
-use crate::reading;
-use crate::sheet;
 use command_calls::routines;
 use command_line::arguments;
 use command_line::commands::Command;
+use command_lists::reading;
+use command_lists::sheet;
 
-fn run_on(c: Command, order: usize, first: &[u8], second: &[u8], tape: &[u8]) {
+fn run_on(c: Command, order: usize, first: &[u8], second: &[u8], tape: &[u32]) {
     match c {
         Command::Read => reading::run(order, first, second, tape),
         Command::Sheet => sheet::run(order, first, second, tape),
@@ -15,11 +15,11 @@ fn run_on(c: Command, order: usize, first: &[u8], second: &[u8], tape: &[u8]) {
 
 // The tape is argument i.
 fn with_inputs(c: Command, order: usize, first: &[u8], second: &[u8], i: usize) {
-    let mut tape = io::large_buffer();
-    let got = arguments::tape(i, &mut tape);
+    let mut words = command_tape::buffer();
+    let got = command_tape::read(i, &mut words);
     if got.good {
         let n = got.count;
-        run_on(c, order, first, second, &tape[0..n]);
+        run_on(c, order, first, second, &words[0..n]);
     }
 }
 

@@ -4,15 +4,13 @@
 // A refused call prints `refused N: CAUSE` on standard output. A command line that cannot be read gets one line on standard error. The exit
 // status is 0 in every case, since a program in Rattle has no other.
 mod calls;
-mod help;
-mod layout;
-mod places;
-mod reading;
-mod sheet;
 
 use command_line::commands;
 use command_line::commands::Command;
 use command_line::faults;
+use command_line::help;
+use command_lists::layout;
+use command_lists::places;
 use command_previews::previews;
 
 fn run(c: Command) {

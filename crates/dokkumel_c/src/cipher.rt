@@ -8,7 +8,7 @@ ghost use Rattle.dokkumel_c.specs.Returned.{gives, returned};
 pub extern "C" fn dokkumel_sbox(
     order: usize,
     input: &[u8],
-    tape: &[u8],
+    tape: &[u32],
     output: &mut [u8],
     taken: &mut usize,
 ) -> u32
@@ -24,7 +24,7 @@ pub extern "C" fn dokkumel_encrypt(
     order: usize,
     key: &[u8],
     input: &[u8],
-    tape: &[u8],
+    tape: &[u32],
     output: &mut [u8],
     taken: &mut usize,
 ) -> u32
@@ -40,7 +40,7 @@ pub extern "C" fn dokkumel_decrypt(
     order: usize,
     key: &[u8],
     input: &[u8],
-    tape: &[u8],
+    tape: &[u32],
     output: &mut [u8],
     taken: &mut usize,
 ) -> u32

@@ -7,7 +7,7 @@ ghost use Rattle.dokkumel_c.specs.Returned.{gives, returned};
 pub extern "C" fn dokkumel_prepare(
     order: usize,
     key: &[u8],
-    tape: &[u8],
+    tape: &[u32],
     output: &mut [u8],
     taken: &mut usize,
 ) -> u32
@@ -23,7 +23,7 @@ pub extern "C" fn dokkumel_encrypt_prepared(
     order: usize,
     prepared: &[u8],
     input: &[u8],
-    tape: &[u8],
+    tape: &[u32],
     output: &mut [u8],
     taken: &mut usize,
 ) -> u32

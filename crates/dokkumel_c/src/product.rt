@@ -10,7 +10,7 @@ pub extern "C" fn dokkumel_product(
     order: usize,
     left: &[u8],
     right: &[u8],
-    tape: &[u8],
+    tape: &[u32],
     output: &mut [u8],
     taken: &mut usize,
 ) -> u32
@@ -26,7 +26,7 @@ pub extern "C" fn dokkumel_product_sheet(
     order: usize,
     left: &[u8],
     right: &[u8],
-    tape: &[u8],
+    tape: &[u32],
     output: &mut [u8],
     taken: &mut usize,
 ) -> u32
@@ -42,7 +42,7 @@ pub extern "C" fn dokkumel_read_places(
     order: usize,
     left: &[u8],
     right: &[u8],
-    tape: &[u8],
+    tape: &[u32],
     list: &[u16],
     output: &mut [u8],
     taken: &mut usize,

@@ -7,7 +7,7 @@ ghost use Rattle.dokkumel_c.specs.Returned.{gives, returned};
 pub extern "C" fn dokkumel_split(
     order: usize,
     input: &[u8],
-    tape: &[u8],
+    tape: &[u32],
     output: &mut [u8],
     taken: &mut usize,
 ) -> u32
@@ -36,7 +36,7 @@ pub extern "C" fn dokkumel_join(
 pub extern "C" fn dokkumel_refresh(
     order: usize,
     input: &[u8],
-    tape: &[u8],
+    tape: &[u32],
     output: &mut [u8],
     taken: &mut usize,
 ) -> u32

@@ -4,7 +4,8 @@ use mathlib.Core.Path.{_≡_, refl, sym, ap, ap₂, _∙_}
 use mathlib.Core.Bool.{Bool, true, cond}
 use mathlib.Core.List.{List, [], _∷_, _++_}
 use Prim.Native.Nat.{ℕ, zero, suc, _+_, _*_, _/_, _%_, _^_, _≤_, _<_}
-use native.Mathlib.Nat.{mod-lt, pow-zero, pow-suc, pow-succ', zero-lt-suc, add-comm, add-zero, zero-add, suc-add, suc-mul, zero-mul, mul-zero}
+use native.Mathlib.Nat.{mod-lt, pow-zero, pow-suc, pow-succ', zero-lt-suc, add-comm, add-zero, zero-add, suc-add}
+use native.Mathlib.Nat.{suc-mul, zero-mul, mul-zero, one-mul, mul-add, mul-assoc}
 use native.Mathlib.Numerals.{add-one}
 use native.Mathlib.Omega.{arith}
 use lib.Arith.{digits-div, digits-mod, lt-one}
@@ -14,7 +15,7 @@ use Rattle.xor.specs.Lists.{done, _&_, Below}
 use Rattle.xor.specs.Sums.{xors}
 use Rattle.xor.proofs.DigitLaws.{two-pos, digit-cases}
 use Rattle.xor.proofs.StringLaws.{xors-nil-r}
-use Rattle.isw.specs.Hiding.{total, how-many}
+use Rattle.isw.specs.Hiding.{total, how-many, sums}
 
 -- ---- over the numbers below a bound
 
@@ -23,7 +24,7 @@ unfolding total
 total-cong zero f g h = refl
 total-cong (suc m) f g h = ap₂ _+_ (total-cong m f g (λ v l. h v (omega arith))) (h m (omega arith))
 
-total-const : (m c : ℕ) → total m (λ v. c) ≡ m * c
+pub total-const : (m c : ℕ) → total m (λ v. c) ≡ m * c
 unfolding total
 total-const zero c = sym (zero-mul c)
 total-const (suc m) c = ap (λ (x : ℕ). x + c) (total-const m c) ∙ sym (suc-mul m c)
@@ -33,10 +34,15 @@ unfolding total
 total-add zero f g = refl
 total-add (suc m) f g = omega (arith, total-add m f g)
 
-total-swap : (m n : ℕ) (f : ℕ → ℕ → ℕ) → total m (λ u. total n (f u)) ≡ total n (λ v. total m (λ u. f u v))
+pub total-swap : (m n : ℕ) (f : ℕ → ℕ → ℕ) → total m (λ u. total n (f u)) ≡ total n (λ v. total m (λ u. f u v))
 unfolding total
 total-swap zero n f = sym (total-const n 0 ∙ mul-zero n)
 total-swap (suc m) n f = ap (λ (x : ℕ). x + total n (f m)) (total-swap m n f) ∙ sym (total-add n (λ v. total m (λ u. f u v)) (f m))
+
+pub total-times : (m c : ℕ) (f : ℕ → ℕ) → total m (λ v. c * f v) ≡ c * total m f
+unfolding total
+total-times zero c f = sym (mul-zero c)
+total-times (suc m) c f = ap (λ (x : ℕ). x + c * f m) (total-times m c f) ∙ sym (mul-add c (total m f) (f m))
 
 -- ---- each number moved by a XOR
 
@@ -77,10 +83,6 @@ total-xor (suc w) e f h =
 
 -- ---- over the lists of k numbers below m: the first number is the outermost sum
 
-unfoldable pub sums : (m k : ℕ) → (List ℕ → ℕ) → ℕ
-sums m zero f = f []
-sums m (suc k) f = total m (λ v. sums m k (λ vs. f (v ∷ vs)))
-
 -- a count is a sum of ones
 pub how-many-sums : (m k : ℕ) (test : List ℕ → Bool) → how-many m k test ≡ sums m k (λ vs. cond (test vs) 1 0)
 unfolding how-many sums
@@ -103,6 +105,22 @@ pub sums-split : (m k l : ℕ) (f : List ℕ → ℕ) → sums m (k + l) f ≡ s
 unfolding sums
 sums-split m zero l f = rw zero-add
 sums-split m (suc k) l f = rw suc-add (total-cong m _ _ (λ v h. sums-split m k l (λ vs. f (v ∷ vs))))
+
+-- a factor that all have
+pub sums-times : (m k c : ℕ) (f : List ℕ → ℕ) → sums m k (λ vs. c * f vs) ≡ c * sums m k f
+unfolding sums
+sums-times m zero c f = refl
+sums-times m (suc k) c f = total-cong m _ _ (λ v l. sums-times m k c (λ vs. f (v ∷ vs))) ∙ total-times m c (λ v. sums m k (λ vs. f (v ∷ vs)))
+
+-- the same number for each list
+pub sums-const : (m k c : ℕ) → sums m k (λ vs. c) ≡ m ^ k * c
+unfolding sums
+sums-const m zero c = sym (ap (λ (x : ℕ). x * c) (pow-zero m) ∙ one-mul c)
+sums-const m (suc k) c =
+    total-const m (sums m k (λ vs. c))
+    ∙ ap (_*_ m) (sums-const m k c)
+    ∙ sym (mul-assoc m (m ^ k) c)
+    ∙ ap (λ (x : ℕ). x * c) (sym (pow-succ' m k))
 
 -- the last number may as well be the outermost sum
 pub sums-last : (m k : ℕ) (f : List ℕ → ℕ) → sums m (suc k) f ≡ total m (λ v. sums m k (λ vs. f (vs ++ (v ∷ []))))

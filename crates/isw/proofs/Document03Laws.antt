@@ -16,12 +16,12 @@ use Rattle.xor.proofs.RunsLaws.{runs-from, tab-from, runs-zero}
 use Rattle.xor.proofs.Tests.{by-eq, true-T, and-left, and-right}
 use Rattle.isw.specs.Place.{Place, left, right, part, running, skip, row, byte, pair-row, drawn, product-need, value, sheet, listed}
 use Rattle.isw.specs.Place as P
-use Rattle.isw.specs.Hiding.{total, factor, choice-length, chosen, same}
+use Rattle.isw.specs.Hiding.{total, sums, factor, choice-length, chosen, same}
 use Rattle.isw.specs.Hiding as H
 use Rattle.isw.specs.Document03 as D
 use Rattle.isw.proofs.OrderLaws.{twice-need, product-need-is}
 use Rattle.isw.proofs.PlaceLaws.{skip-past, skip-before}
-use Rattle.isw.proofs.CountLaws.{total-cong, sums, sums-cong, sums-last, how-many-sums}
+use Rattle.isw.proofs.CountLaws.{total-cong, sums-cong, sums-last, how-many-sums}
 
 -- ---- the sheet
 

@@ -16,10 +16,10 @@ use Rattle.xor.specs.Sums.{xors}
 use Rattle.xor.proofs.ListsLaws.{all-map, all-of-map, all-to-map, all-getD, map-cong, at-map, at-below}
 use Rattle.xor.proofs.PairsLaws.{length-each-pair, all-each-pair}
 use Rattle.isw.specs.Place.{Place, left, places, place-count, product-need, value, sheet, listed}
-use Rattle.isw.specs.Hiding.{factor, choice-length, chosen, same, readings, Hides}
+use Rattle.isw.specs.Hiding.{sums, factor, choice-length, chosen, same, readings, Hides}
 use Rattle.isw.proofs.OrderLaws.{drawn-moved}
 use Rattle.isw.proofs.PlaceLaws.{Within, places-within, length-places}
-use Rattle.isw.proofs.CountLaws.{sums, how-many-sums, sums-cong, sums-split, sums-xors}
+use Rattle.isw.proofs.CountLaws.{how-many-sums, sums-cong, sums-split, sums-xors}
 use Rattle.isw.proofs.MaskLaws.{taken-up, length-taken-up, other-shares, taken-up-below, xors-below, factor-below}
 use Rattle.isw.proofs.Missed.{miss}
 use Rattle.isw.proofs.Unseen.{seen-a, seen-b, kept-rows, pick, change, correction, unseen}

@@ -12,6 +12,7 @@ use Rattle.outcomes.specs.declared.Answer.{Answer}
 use Rattle.outcomes.specs.declared.Answer.the-variants.{Taken, Refused}
 use Rattle.outcomes.specs.Outcome.{Test, answered, took, served, reaches}
 use Rattle.outcomes.proofs.OutcomeLaws.{Passed, _and_, answered-here, answered-next, answered-taken, served-bounds, reaches-le}
+use Rattle.tape_words.specs.Words.{words-for}
 use Rattle.cipher.specs.Cipher.{schedule-need}
 use Rattle.lengths.specs.Lengths.{key-words, prepared-length}
 use Rattle.lengths.specs.Previews.{Keyed, Block-tests, Preparation-tests}
@@ -60,7 +61,7 @@ pub record Preparation-through (d k t o : ℕ) : Type 0 where
   pub order : d ≤ 8
   pub some : 0 < key-words d k
   pub output : o ≡ prepared-length (key-words d k) d
-  pub drawn : schedule-need (key-words d k) d ≤ t
+  pub drawn : words-for (schedule-need (key-words d k) d) ≤ t
 
 pub preparation-passed : (d k t o : ℕ) → Passed (Preparation-tests d k t o) → Preparation-through d k t o
 preparation-passed d k t o (u and y and r and n and p) = record {
@@ -68,7 +69,7 @@ preparation-passed d k t o (u and y and r and n and p) = record {
   order = served-bounds d u .1;
   some = ltb-true 0 (key-words d k) y;
   output = eqb-true o (prepared-length (key-words d k) d) r;
-  drawn = reaches-le t (schedule-need (key-words d k) d) n;
+  drawn = reaches-le t (words-for (schedule-need (key-words d k) d)) n;
 }
 
 pub preparation-through : (d k t o : ℕ) (a : Answer) (n c : Count) → a ≡ answered (Preparation-tests d k t o) n → a ≡ Taken c

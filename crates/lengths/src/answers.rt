@@ -1,9 +1,10 @@
 // The tests that decide a call's answer, on the order and the buffers' lengths alone. The calls and their previews ask here, so the order of the
 // tests stands once. Document 01's table decides it; for prepared keys document 02, wish 1, and for previews wish 4.
-// Lengths are any numbers: they are compared, and nothing is computed with them.
+// Lengths are any numbers: they are compared, and nothing is computed with them. The tape's is in words, and needs are rounded up to words here.
 ghost use mathlib.Core.Path.{_≡_};
 ghost use Prim.Native.Nat.{_≤_};
 ghost use Rattle.outcomes.specs.Outcome.{answered, took};
+ghost use Rattle.tape_words.specs.Words.{words-for};
 ghost use Rattle.cipher.specs.Cipher.{schedule-need, encrypted-with-need, cipher-need};
 ghost use Rattle.lengths.specs.Lengths.{key-words, prepared-words};
 ghost use Rattle.lengths.specs.Previews.{Block-tests, Single-tests, Preparation-tests, Prepared-tests};
@@ -13,7 +14,7 @@ use outcomes::Answer;
 use outcomes::Count;
 use outcomes::Refusal;
 
-// The tests of a block that draws so many bytes, behind those of the order and the key.
+// The tests of a block that draws so many words, behind those of the order and the key.
 fn block_answer(need: usize, d: usize, input: usize, tape: usize, output: usize) -> Answer
     requires { ⌜ d ≤ 8 ⌝ }
     ensures { λ r. ⌜ r ≡ answered (Block-tests need d input tape output) (took need) ⌝ }
@@ -33,7 +34,7 @@ fn block_answer(need: usize, d: usize, input: usize, tape: usize, output: usize)
 
 // The tests of an encryption or decryption by a single call.
 pub fn single_answer(order: usize, key: usize, input: usize, tape: usize, output: usize) -> Answer
-    ensures { λ r. ⌜ r ≡ answered (Single-tests order key input tape output) (took (cipher-need (key-words order key) order)) ⌝ }
+    ensures { λ r. ⌜ r ≡ answered (Single-tests order key input tape output) (took (words-for (cipher-need (key-words order key) order))) ⌝ }
 {
     if !outcomes::asked::served(order) {
         return Answer::Refused(Refusal::Order);
@@ -42,7 +43,8 @@ pub fn single_answer(order: usize, key: usize, input: usize, tape: usize, output
     if nk == 0 {
         return Answer::Refused(Refusal::Key);
     }
-    block_answer(needs::cipher_need(nk, order), order, input, tape, output)
+    let need = tape_words::words_for(needs::cipher_need(nk, order));
+    block_answer(need, order, input, tape, output)
 }
 
 // The tests of an encryption from prepared keys.
@@ -54,7 +56,8 @@ pub fn prepared_answer(
     output: usize,
 ) -> Answer
     ensures { λ r. ⌜ r
-        ≡ answered (Prepared-tests order prepared input tape output) (took (encrypted-with-need (prepared-words order prepared) order)) ⌝ }
+        ≡ answered (Prepared-tests order prepared input tape output)
+        (took (words-for (encrypted-with-need (prepared-words order prepared) order))) ⌝ }
 {
     if !outcomes::asked::served(order) {
         return Answer::Refused(Refusal::Order);
@@ -63,18 +66,13 @@ pub fn prepared_answer(
     if nk == 0 {
         return Answer::Refused(Refusal::Key);
     }
-    block_answer(
-        needs::encrypted_with_need(nk, order),
-        order,
-        input,
-        tape,
-        output,
-    )
+    let need = tape_words::words_for(needs::encrypted_with_need(nk, order));
+    block_answer(need, order, input, tape, output)
 }
 
 // The tests of a preparation. It has no input.
 pub fn preparation_answer(order: usize, key: usize, tape: usize, output: usize) -> Answer
-    ensures { λ r. ⌜ r ≡ answered (Preparation-tests order key tape output) (took (schedule-need (key-words order key) order)) ⌝ }
+    ensures { λ r. ⌜ r ≡ answered (Preparation-tests order key tape output) (took (words-for (schedule-need (key-words order key) order))) ⌝ }
 {
     if !outcomes::asked::served(order) {
         return Answer::Refused(Refusal::Order);
@@ -86,9 +84,9 @@ pub fn preparation_answer(order: usize, key: usize, tape: usize, output: usize) 
     if output != sizes::prepared_length(nk, order) {
         return Answer::Refused(Refusal::Output);
     }
-    let need = needs::schedule_need(nk, order);
-    if tape < need {
+    let words = tape_words::words_for(needs::schedule_need(nk, order));
+    if tape < words {
         return Answer::Refused(Refusal::Tape);
     }
-    Answer::Taken(Count { taken: need })
+    Answer::Taken(Count { taken: words })
 }

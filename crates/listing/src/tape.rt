@@ -1,5 +1,6 @@
 // Which bytes of the tape go into which step of an encryption, or of a decryption, which has as many S-boxes in the same order. Each function
 // prints some lines, or a part of one, and answers with where the walk then stands. How many bytes a step takes is the library's own number.
+// Bytes run through a call without a gap, so an S-box may begin and end within a word (document 02, wish 6).
 ghost use Prim.Native.Nat.{_≤_};
 ghost use Rattle.lengths.specs.Lengths.{Key-size};
 
@@ -17,6 +18,13 @@ fn step(name: &[u8], at: usize, n: usize) -> usize {
     next
 }
 
+// The words that hold the bytes up to the next one, as the end of a line.
+fn words(first: usize, next: usize) {
+    text::print_with(b", in words ", first / 4);
+    text::print_with(b"..", std::num::wrapping_sub_usize(next, 1) / 4);
+    text::print(b"\n");
+}
+
 // The steps of an S-box that draw, in their order, as the end of its line.
 fn steps(d: usize, first: usize) -> usize
     requires { ⌜ d ≤ 8 ⌝ }
@@ -29,7 +37,7 @@ fn steps(d: usize, first: usize) -> usize
     at = step(b", y*w ", at, p);
     at = step(b", y^16*w ", at, p);
     at = step(b", y*z ", at, p);
-    text::print(b"\n");
+    words(first, at);
     at
 }
 
@@ -103,14 +111,21 @@ fn rounds(nk: usize, d: usize, start: Spot) -> Spot
     s
 }
 
-// How many bytes the library asks for: in the single call, and in each of the two calls from prepared keys. Then how the lines are read for a
-// decryption, whose rounds FIPS 197 counts down.
+// How much tape a call takes: whole words, and the bytes that it draws from them.
+fn print_need(name: &[u8], bytes: usize) {
+    text::print_with(name, tape_words::words_for(bytes));
+    text::print_with(b" words, ", bytes);
+    text::print(b" bytes");
+}
+
+// How much the library asks for: in the single call, and in each of the two calls from prepared keys. Then how the lines are read for a decryption,
+// whose rounds FIPS 197 counts down.
 fn print_needs(nk: usize, d: usize)
     requires { ⌜ (d ≤ 8) × Key-size nk ⌝ }
 {
-    text::print_with(b"total ", lengths::needs::cipher_need(nk, d));
-    text::print_with(b"\npreparation ", lengths::needs::schedule_need(nk, d));
-    text::print_with(b", rounds ", lengths::needs::encrypted_with_need(nk, d));
+    print_need(b"total ", lengths::needs::cipher_need(nk, d));
+    print_need(b"\npreparation ", lengths::needs::schedule_need(nk, d));
+    print_need(b"; rounds ", lengths::needs::encrypted_with_need(nk, d));
     text::print(
         b"\ndecryption, in a single call only: the same, where round 1 is the first to run and state bytes are those after InvShiftRows\n",
     );
@@ -120,6 +135,7 @@ fn print_needs(nk: usize, d: usize)
 pub fn print(nk: usize, d: usize)
     requires { ⌜ (d ≤ 8) × Key-size nk ⌝ }
 {
+    text::print(b"ranges are in bytes; tape word k has bytes 4*k to 4*k+3, the lowest first\n");
     let start = Spot { number: 0, at: 0 };
     rounds(nk, d, key_words(nk, d, start));
     print_needs(nk, d);

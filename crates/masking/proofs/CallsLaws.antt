@@ -12,6 +12,7 @@ use Rattle.outcomes.specs.declared.Answer.{Answer}
 use Rattle.outcomes.specs.declared.Answer.the-variants.{Taken}
 use Rattle.outcomes.specs.Outcome.{test, answered, served, reaches}
 use Rattle.outcomes.proofs.OutcomeLaws.{Passed, _and_, answered-here, answered-taken, served-bounds, reaches-le}
+use Rattle.tape_words.specs.Words.{words-for}
 use Rattle.masking.specs.Calls.{two-fit, Factor-tests}
 
 pub two-fit-lengths : (d a b : ℕ) → two-fit d a b ≡ true → (a ≡ suc d) × (b ≡ suc d)
@@ -35,12 +36,12 @@ pub record Factors-through (room d a b t o : ℕ) : Type 0 where
   pub left : a ≡ suc d
   pub right : b ≡ suc d
   pub output : o ≡ room
-  pub drawn : product-need d ≤ t
+  pub drawn : words-for (product-need d) ≤ t
 
 pub factors-passed : (room d a b t o : ℕ) → Passed (Factor-tests room d a b t o) → Factors-through room d a b t o
 factors-passed room d a b t o (u and i and r and n and p) =
     let f = two-fit-lengths d a b i in
-    record { order = served-bounds d u .1; left = f .0; right = f .1; output = eqb-true o room r; drawn = reaches-le t (product-need d) n }
+    record { order = served-bounds d u .1; left = f .0; right = f .1; output = eqb-true o room r; drawn = reaches-le t _ n }
 
 pub factors-through : (room d a b t o : ℕ) (q : Answer) (k c : Count) → q ≡ answered (Factor-tests room d a b t o) k → q ≡ Taken c
     → Factors-through room d a b t o

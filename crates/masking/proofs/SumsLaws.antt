@@ -14,8 +14,8 @@ use Rattle.xor.proofs.ListsLaws.{length-tab, at-tab, tab-at, tab-cong}
 use Rattle.gf256.specs.Field.{times}
 use Rattle.isw.specs.Place.{running, row, drawn, product}
 use Rattle.isw.proofs.PlaceLaws.{skip-past, skip-before}
-use Rattle.shares.specs.Writes.{front}
-use Rattle.shares.proofs.WriteLaws.{at-front}
+use Rattle.xor.specs.Writes.{front}
+use Rattle.xor.proofs.WriteLaws.{at-front}
 use Rattle.masking.specs.Steps.{backs, starts, behind-taken, row-taken, pairs-taken}
 use Rattle.masking.proofs.TermsLaws.{r, row-draws, row-backs, product-rows}
 

@@ -13,8 +13,8 @@ use Rattle.xor.proofs.ListsLaws.{map-tab, tab-cong}
 use Rattle.xor.proofs.PairsLaws.{before-row-next, before-row-le, pair-count-last}
 use Rattle.gf256.specs.Field.{times}
 use Rattle.isw.specs.Place.{part, half-sum, other, term, row, byte, outputs, drawn, product-need, value, product}
-use Rattle.shares.specs.Writes.{front}
-use Rattle.shares.proofs.WriteLaws.{length-part-rest, at-front}
+use Rattle.xor.specs.Writes.{front}
+use Rattle.xor.proofs.WriteLaws.{length-part-rest, at-front}
 use Rattle.masking.specs.Steps.{halves, lowers, backs}
 use Rattle.masking.specs.Fits.{Factors-fit, Row-fits}
 

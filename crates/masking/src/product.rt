@@ -7,6 +7,7 @@ ghost use Rattle.gf256.specs.Field as Field;
 ghost use Rattle.gf256.specs.Tables.{Tables};
 ghost use Rattle.isw.specs.Place as Place;
 ghost use Rattle.outcomes.specs.Outcome.{outcome, answered, took};
+ghost use Rattle.tape_words.specs.Words.{bytes-of, words-for};
 ghost use Rattle.masking.specs.Steps;
 ghost use Rattle.masking.specs.Fits.{Factors-fit, Row-fits};
 ghost use Rattle.masking.specs.Calls.{two-fit, Factor-tests, Product-outcome};
@@ -44,7 +45,7 @@ pub fn factors_answer(
     tape: usize,
     output: usize,
 ) -> Answer
-    ensures { λ r. ⌜ r ≡ answered (Factor-tests room order left right tape output) (took (Place.product-need order)) ⌝ }
+    ensures { λ r. ⌜ r ≡ answered (Factor-tests room order left right tape output) (took (words-for (Place.product-need order))) ⌝ }
 {
     if !outcomes::asked::served(order) {
         return Answer::Refused(Refusal::Order);
@@ -55,7 +56,7 @@ pub fn factors_answer(
     if output != room {
         return Answer::Refused(Refusal::Output);
     }
-    let need = product_need(order);
+    let need = tape_words::words_for(product_need(order));
     if tape < need {
         return Answer::Refused(Refusal::Tape);
     }
@@ -139,11 +140,30 @@ pub fn product_core(
     take_pairs(logs, antilogs, d, a, b, tape, output)
 }
 
+// The same on a tape of words. Answers with how many words were drawn.
+fn product_on_words(
+    logs: &Logs,
+    antilogs: &Antilogs,
+    d: usize,
+    a: &[u8],
+    b: &[u8],
+    tape: &[u32],
+    output: &mut [u8],
+) -> usize
+    requires { ⌜ Factors-fit d (now a) (now b) (bytes-of (now tape)) × (length (now output) ≡ suc d) × Tables (now logs) (now antilogs) ⌝ }
+    ensures { λ k. ⌜ (k ≡ words-for (Place.product-need d))
+        × (now (output .exit) ≡ Place.product Field.times d (now (a .entry)) (now (b .entry)) (bytes-of (now (tape .entry)))) ⌝ }
+{
+    let mut drawn = [0u8; 36];
+    tape_words::unpack(product_need(d), tape, &mut drawn);
+    tape_words::words_for(product_core(logs, antilogs, d, a, b, &drawn, output))
+}
+
 pub fn masked_product(
     order: usize,
     left: &[u8],
     right: &[u8],
-    tape: &[u8],
+    tape: &[u32],
     output: &mut [u8],
 ) -> Answer
     ensures { λ r. ⌜ outcome r (now (output .exit))
@@ -163,6 +183,6 @@ pub fn masked_product(
     let logs = gf256::logs();
     let antilogs = gf256::antilogs();
     Answer::Taken(Count {
-        taken: product_core(&logs, &antilogs, order, left, right, tape, output),
+        taken: product_on_words(&logs, &antilogs, order, left, right, tape, output),
     })
 }

@@ -17,7 +17,7 @@ ghost use lib.ListN.{length};
 ghost use Rattle.xor.specs.Lists.{at, tab};
 ghost use Rattle.gf256.specs.Tables.{Tables};
 ghost use Rattle.isw.specs.Place as Place;
-ghost use Rattle.shares.specs.Writes.{front};
+ghost use Rattle.xor.specs.Writes.{front};
 ghost use Rattle.masking.specs.Steps;
 ghost use Rattle.masking.specs.Fits.{Row-fits, Rows-fit, Half-fits, Sums-fit};
 use gf256::Antilogs;

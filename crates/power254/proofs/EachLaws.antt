@@ -5,7 +5,7 @@ use Prim.Native.Nat.{ℕ, _+_, _<_}
 use lib.ListN.{length, getD, set}
 use Rattle.xor.specs.Lists.{at, runs, tab}
 use Rattle.xor.proofs.ListsLaws.{getD-tab, map-tab, tab-at}
-use Rattle.shares.proofs.WriteLaws.{over, over-none, over-more, over-all, over-at}
+use Rattle.xor.proofs.WriteLaws.{over, over-none, over-more, over-all, over-at}
 
 module _ (f : ℕ → ℕ) where
   pub map-tab-at : (xs : List ℕ) → tab (λ k. f (at xs k)) (length xs) ≡ map f xs

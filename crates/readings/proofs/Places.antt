@@ -10,25 +10,27 @@ use Rattle.isw.proofs.SheetLaws.{product-shown}
 use Rattle.outcomes.specs.declared.Count.{Count}
 use Rattle.outcomes.specs.Outcome.{done, took}
 use Rattle.outcomes.proofs.OutcomeLaws.{settled-taken}
+use Rattle.tape_words.specs.Words.{bytes-of, words-for}
 use Rattle.masking.specs.Calls.{Product-outcome}
 use Rattle.sheets.specs.Calls.{Sheet-outcome}
 use Rattle.readings.specs.Calls.{Reading-outcome}
 
+-- the tape is words, and the steps draw its bytes
 module _ (d : ℕ) (a b ts : List ℕ) where
   -- the sheet: the byte at each place, in their order
   pub sheet-shows : (o : List ℕ) (k : Count) (bs : List ℕ) → Sheet-outcome d a b ts o ≡ done k bs
-      → (k ≡ took (product-need d)) × (bs ≡ map (value times d a b ts) (places (suc d)))
+      → (k ≡ took (words-for (product-need d))) × (bs ≡ map (value times d a b (bytes-of ts)) (places (suc d)))
   unfolding Sheet-outcome sheet
   sheet-shows o k bs e = let g = settled-taken _ _ _ _ k bs e in (g .1, g .2)
 
   -- the product: the bytes at the places c_0 to c_d
   pub product-shows : (o : List ℕ) (k : Count) (cs : List ℕ) → Product-outcome d a b ts o ≡ done k cs
-      → (k ≡ took (product-need d)) × (cs ≡ map (value times d a b ts) (outputs d))
+      → (k ≡ took (words-for (product-need d))) × (cs ≡ map (value times d a b (bytes-of ts)) (outputs d))
   unfolding Product-outcome product
   product-shows o k cs e = let g = settled-taken _ _ _ _ k cs e in (g .1, g .2)
 
   pub reading-shows : (ps o : List ℕ) (k : Count) (q : List ℕ) → Reading-outcome d a b ts ps o ≡ done k q
-      → (k ≡ took (product-need d)) × (q ≡ listed (sheet times d a b ts) ps)
+      → (k ≡ took (words-for (product-need d))) × (q ≡ listed (sheet times d a b (bytes-of ts)) ps)
   unfolding Reading-outcome
   reading-shows ps o k q e = let g = settled-taken _ _ _ _ k q e in (g .1, g .2)
 
@@ -47,6 +49,6 @@ module _ (d : ℕ) (a b ts : List ℕ) where
         r .0 ∙ sym (s .0),
         r .1 ∙ ap (λ (l : List ℕ). listed l ps) (sym (s .1)),
         λ i h. ap (λ (l : List ℕ). at l i) (p .1)
-            ∙ sym (product-shown times d a b ts i h)
+            ∙ sym (product-shown times d a b (bytes-of ts) i h)
             ∙ ap (λ (l : List ℕ). at l (2 * suc d + 5 * (d * suc d / 2) + i * suc d + d)) (sym (s .1)),
       )

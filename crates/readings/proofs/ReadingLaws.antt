@@ -18,6 +18,7 @@ use Rattle.outcomes.specs.declared.Answer.{Answer}
 use Rattle.outcomes.specs.declared.Answer.the-variants.{Taken, Refused}
 use Rattle.outcomes.specs.Outcome.{done, outcome, Test, took, answered, settled, served, reaches}
 use Rattle.outcomes.proofs.OutcomeLaws.{Passed, _and_, answered-next, answered-taken, outcome-answer, settled-refused, settled-done, settled-taken}
+use Rattle.tape_words.specs.Words.{bytes-of, words-for}
 use Rattle.masking.specs.Calls.{two-fit, Factor-tests}
 use Rattle.sheets.specs.Calls.{Sheet-outcome}
 use Rattle.readings.specs.Calls.{all-below, Listed-tests, Reading-tests, Reading-outcome}
@@ -46,51 +47,52 @@ module _ (d : ℕ) (a b ts ps o s q : List ℕ) (made : Answer) (told : outcome 
   abbrev tests : List Test
   tests = Reading-tests d (length a) (length b) (length ts) (length ps) (length o) (all-below (place-count d) ps)
 
-  sheet-answered : made ≡ answered (Factor-tests (place-count d) d (length a) (length b) (length ts) (length s)) (took (product-need d))
+  sheet-answered : made ≡ answered (Factor-tests (place-count d) d (length a) (length b) (length ts) (length s)) (took (words-for (product-need d)))
   unfolding Sheet-outcome settled
-  sheet-answered = outcome-answer made _ q s (sheet times d a b ts) told
+  sheet-answered = outcome-answer made _ q s (sheet times d a b (bytes-of ts)) told
 
   pub reading-handed : (served d ≡ true → length s ≡ place-count d) → (r : Refusal) → made ≡ Refused r
       → outcome made o ≡ Reading-outcome d a b ts ps o
   unfolding Reading-outcome answered
   reading-handed room r e =
-      settled-refused tests (took (product-need d)) o _ made
+      settled-refused tests (took (words-for (product-need d))) o _ made
       (e
-      ∙ handed (served d) (two-fit d (length a) (length b)) (eqb (length s) (place-count d)) (reaches (length ts) (product-need d)) _ _ r
+      ∙ handed (served d) (two-fit d (length a) (length b)) (eqb (length s) (place-count d)) (reaches (length ts) (words-for (product-need d))) _ _ r
       (λ u. eq-eqb (length s) (place-count d) (room u)) (sym e ∙ sheet-answered)) r e
 
   -- where it was made
   module _ (k : Count) (taken : made ≡ Taken k) where
-    known : Passed (Factor-tests (place-count d) d (length a) (length b) (length ts) (length s)) × (k ≡ took (product-need d))
-        × (q ≡ sheet times d a b ts)
+    known : Passed (Factor-tests (place-count d) d (length a) (length b) (length ts) (length s)) × (k ≡ took (words-for (product-need d)))
+        × (q ≡ sheet times d a b (bytes-of ts))
     unfolding Sheet-outcome
     known =
-        settled-taken (Factor-tests (place-count d) d (length a) (length b) (length ts) (length s)) (took (product-need d)) s
-        (sheet times d a b ts) k q
+        settled-taken (Factor-tests (place-count d) d (length a) (length b) (length ts) (length s)) (took (words-for (product-need d))) s
+        (sheet times d a b (bytes-of ts)) k q
         (sym told ∙ ap (λ (x : Answer). outcome x q) taken)
 
     long : length q ≡ place-count d
-    long = ap length (known .2) ∙ length-sheet times d a b ts
+    long = ap length (known .2) ∙ length-sheet times d a b (bytes-of ts)
 
     module _ (below : Bool) (so : below ≡ all-below (length q) ps) (answer : Answer)
         (asked : answer ≡ answered (Listed-tests d (length ps) (length o) below) k) where
       -- the reading's own answer is that of all its tests
-      reading-answered : answer ≡ answered tests (took (product-need d))
+      reading-answered : answer ≡ answered tests (took (words-for (product-need d)))
       reading-answered = go (known .0)
         where
-          own : answer ≡ answered (Listed-tests d (length ps) (length o) (all-below (place-count d) ps)) (took (product-need d))
+          own : answer ≡ answered (Listed-tests d (length ps) (length o) (all-below (place-count d) ps)) (took (words-for (product-need d)))
           own =
               asked
               ∙ ap₂ (λ (y : Bool) (n : Count). answered (Listed-tests d (length ps) (length o) y) n)
               (so ∙ ap (λ (n : ℕ). all-below n ps) long)
               (known .1)
 
-          go : Passed (Factor-tests (place-count d) d (length a) (length b) (length ts) (length s)) → answer ≡ answered tests (took (product-need d))
+          go : Passed (Factor-tests (place-count d) d (length a) (length b) (length ts) (length s))
+              → answer ≡ answered tests (took (words-for (product-need d)))
           go (u and f and g and t and p) = answered-next _ _ _ _ u (answered-next _ _ _ _ f (answered-next _ _ _ _ t own))
 
       pub reading-refused : (r : Refusal) → answer ≡ Refused r → outcome answer o ≡ Reading-outcome d a b ts ps o
       unfolding Reading-outcome
-      reading-refused = settled-refused tests (took (product-need d)) o _ answer reading-answered
+      reading-refused = settled-refused tests (took (words-for (product-need d))) o _ answer reading-answered
 
       module _ (c : Count) (through : answer ≡ Taken c) where
         -- what the picking of the bytes may rely on
@@ -104,6 +106,6 @@ module _ (d : ℕ) (a b ts ps o s q : List ℕ) (made : Answer) (told : outcome 
         unfolding Reading-outcome
         reading-done x e =
             ap (λ (y : Answer). outcome y x) through
-            ∙ settled-done tests (took (product-need d)) o _ answer reading-answered c c x through
+            ∙ settled-done tests (took (words-for (product-need d))) o _ answer reading-answered c c x through
             (answered-taken _ k c (sym asked ∙ through) .1 ∙ known .1)
             (e ∙ ap (λ (y : List ℕ). listed y ps) (known .2))

@@ -56,7 +56,7 @@ fn read_with(
     order: usize,
     left: &[u8],
     right: &[u8],
-    tape: &[u8],
+    tape: &[u32],
     list: &[u16],
     sheet: &mut [u8],
     output: &mut [u8],
@@ -82,7 +82,7 @@ pub fn read_places(
     order: usize,
     left: &[u8],
     right: &[u8],
-    tape: &[u8],
+    tape: &[u32],
     list: &[u16],
     output: &mut [u8],
 ) -> Answer

@@ -4,6 +4,7 @@ ghost use mathlib.Core.Path.{_≡_};
 ghost use Prim.Native.Nat.{suc, _*_, _+_, _≤_};
 ghost use lib.ListN.{length};
 ghost use Rattle.gf256.specs.Tables.{Tables};
+ghost use Rattle.tape_words.specs.Words.{bytes-of};
 ghost use Rattle.shares.specs.Strings.{parts, laid};
 ghost use Rattle.cipher.specs.Cipher.{round-need};
 ghost use Rattle.cipher.specs.Rounds.{round-of, key-of};
@@ -25,18 +26,18 @@ pub fn key_number(which: Direction, nr: usize, i: usize) -> usize
     }
 }
 
-// SubBytes, then ShiftRows; in decryption InvShiftRows, then InvSubBytes. Answers with how many bytes were drawn.
+// SubBytes, then ShiftRows; in decryption InvShiftRows, then InvSubBytes. Answers with how many words were drawn.
 fn sub_and_shift(
     logs: &Logs,
     antilogs: &Antilogs,
     which: Direction,
     d: usize,
-    tape: &[u8],
+    tape: &[u32],
     s: &mut [u8],
 ) -> usize
-    requires { ⌜ (d ≤ 8) × (round-need d ≤ length (now tape)) × (length (now s) ≡ suc d * 16) × Tables (now logs) (now antilogs) ⌝ }
-    ensures { λ q. ⌜ (q ≡ round-need d)
-        × (now (s .exit) ≡ laid (shifted-of which d (parts (suc d) 16 (now (s .entry))) (now (tape .entry)))) ⌝ }
+    requires { ⌜ (d ≤ 8) × (round-need d ≤ length (bytes-of (now tape))) × (length (now s) ≡ suc d * 16) × Tables (now logs) (now antilogs) ⌝ }
+    ensures { λ q. ⌜ (4 * q ≡ round-need d)
+        × (now (s .exit) ≡ laid (shifted-of which d (parts (suc d) 16 (now (s .entry))) (bytes-of (now (tape .entry))))) ⌝ }
 {
     match which {
         Direction::Forward => {
@@ -76,7 +77,7 @@ fn mix_and_add(which: Direction, d: usize, m: usize, r: usize, keys: &[u8], s: &
     }
 }
 
-// A round with round key r; the last has no MixColumns. Answers with how many bytes were drawn.
+// A round with round key r; the last has no MixColumns. Answers with how many words were drawn.
 pub fn make_round(
     logs: &Logs,
     antilogs: &Antilogs,
@@ -86,13 +87,13 @@ pub fn make_round(
     m: usize,
     r: usize,
     keys: &[u8],
-    tape: &[u8],
+    tape: &[u32],
     s: &mut [u8],
 ) -> usize
-    requires { ⌜ Round-fits d m r (now keys) (now tape) (now s) × Tables (now logs) (now antilogs) ⌝ }
-    ensures { λ q. ⌜ (q ≡ round-need d)
+    requires { ⌜ Round-fits d m r (now keys) (bytes-of (now tape)) (now s) × Tables (now logs) (now antilogs) ⌝ }
+    ensures { λ q. ⌜ (4 * q ≡ round-need d)
         × (now (s .exit)
-        ≡ laid (round-of which last d r (parts (suc d) m (now (keys .entry))) (parts (suc d) 16 (now (s .entry))) (now (tape .entry)))) ⌝ }
+        ≡ laid (round-of which last d r (parts (suc d) m (now (keys .entry))) (parts (suc d) 16 (now (s .entry))) (bytes-of (now (tape .entry))))) ⌝ }
 {
     let drawn = sub_and_shift(logs, antilogs, which, d, tape, s);
     if last {

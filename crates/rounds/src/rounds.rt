@@ -2,6 +2,7 @@
 ghost use mathlib.Core.Path.{_≡_};
 ghost use Prim.Native.Nat.{suc, _+_, _*_};
 ghost use Rattle.gf256.specs.Tables.{Tables};
+ghost use Rattle.tape_words.specs.Words.{bytes-of};
 ghost use Rattle.shares.specs.Strings.{parts, laid};
 ghost use Rattle.cipher.specs.Fips197.{rounds};
 ghost use Rattle.cipher.specs.Cipher.{round-need, encrypted-with-need};
@@ -12,7 +13,7 @@ use gf256::Antilogs;
 use gf256::Direction;
 use gf256::Logs;
 
-// The nr rounds. Answers with how many bytes were drawn.
+// The nr rounds. Answers with how many words were drawn.
 fn run_rounds(
     logs: &Logs,
     antilogs: &Antilogs,
@@ -21,13 +22,14 @@ fn run_rounds(
     d: usize,
     m: usize,
     keys: &[u8],
-    tape: &[u8],
+    tape: &[u32],
     s: &mut [u8],
 ) -> usize
-    requires { ⌜ Rounds-fit d m nr (now keys) (now tape) (now s) × Tables (now logs) (now antilogs) ⌝ }
-    ensures { λ q. ⌜ (q ≡ nr * round-need d)
+    requires { ⌜ Rounds-fit d m nr (now keys) (bytes-of (now tape)) (now s) × Tables (now logs) (now antilogs) ⌝ }
+    ensures { λ q. ⌜ (4 * q ≡ nr * round-need d)
         × (now (s .exit)
-        ≡ laid (rounds-of which nr nr 1 d (parts (suc d) m (now (keys .entry))) (parts (suc d) 16 (now (s .entry))) (now (tape .entry)))) ⌝ }
+        ≡ laid (rounds-of which nr nr 1 d (parts (suc d) m (now (keys .entry))) (parts (suc d) 16 (now (s .entry)))
+        (bytes-of (now (tape .entry))))) ⌝ }
 {
     let mut at: usize = 0;
     for i in 1..nr + 1 {
@@ -48,7 +50,7 @@ fn run_rounds(
     at
 }
 
-// A block from round keys, share after share: the first round key, and then the rounds, on the state in output. Answers with how many bytes
+// A block from round keys, share after share: the first round key, and then the rounds, on the state in output. Answers with how many words
 // were drawn.
 pub fn rounds_core(
     logs: &Logs,
@@ -58,14 +60,14 @@ pub fn rounds_core(
     d: usize,
     keys: &[u8],
     input: &[u8],
-    tape: &[u8],
+    tape: &[u32],
     output: &mut [u8],
 ) -> usize
-    requires { ⌜ Keyed-fits nk d (now keys) (now input) (now tape) (now output) × Tables (now logs) (now antilogs) ⌝ }
-    ensures { λ q. ⌜ (q ≡ encrypted-with-need nk d)
+    requires { ⌜ Keyed-fits nk d (now keys) (now input) (bytes-of (now tape)) (now output) × Tables (now logs) (now antilogs) ⌝ }
+    ensures { λ q. ⌜ (4 * q ≡ encrypted-with-need nk d)
         × (now (output .exit)
         ≡ laid (with-of which nk d (parts (suc d) (16 * suc (rounds nk)) (now (keys .entry)))
-        (parts (suc d) 16 (now (input .entry))) (now (tape .entry)))) ⌝ }
+        (parts (suc d) 16 (now (input .entry))) (bytes-of (now (tape .entry))))) ⌝ }
 {
     let nr = nk + 6;
     let m = 16 * (nr + 1);

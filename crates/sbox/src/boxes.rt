@@ -6,6 +6,7 @@ ghost use Prim.Native.Nat.{_%_, _≤_, _<_};
 ghost use lib.ListN.{length};
 ghost use Rattle.gf256.specs.Directions.{affine-of, constant-of};
 ghost use Rattle.gf256.specs.Tables.{Tables};
+ghost use Rattle.tape_words.specs.Words.{bytes-of, words-for};
 ghost use Rattle.outcomes.specs.Outcome as Outcome;
 ghost use Rattle.outcomes.specs.Outcome.{outcome};
 ghost use Rattle.sbox.specs.Box;
@@ -94,17 +95,28 @@ pub fn box_of(
     }
 }
 
-// How many bytes a call at that order draws, and 0 where the order is not served.
+// The S-box on a tape of words. Answers with how many words were drawn.
+fn box_on_words(logs: &Logs, antilogs: &Antilogs, d: usize, tape: &[u32], x: &mut [u8]) -> usize
+    requires { ⌜ Power-fits d (now x) (bytes-of (now tape)) × Tables (now logs) (now antilogs) ⌝ }
+    ensures { λ r. ⌜ (r ≡ words-for (Box.box-need d))
+        × (now (x .exit) ≡ Box.box d (now (x .entry)) (bytes-of (now (tape .entry)))) ⌝ }
+{
+    let mut drawn = [0u8; 160];
+    tape_words::unpack(box_need(d), tape, &mut drawn);
+    tape_words::words_for(box_core(logs, antilogs, d, &drawn, x))
+}
+
+// How many words a call at that order draws, and 0 where the order is not served.
 fn call_need(order: usize) -> usize
-    ensures { λ r. ⌜ (Outcome.served order ≡ true → r ≡ Box.box-need order) ⌝ }
+    ensures { λ r. ⌜ (Outcome.served order ≡ true → r ≡ words-for (Box.box-need order)) ⌝ }
 {
     if outcomes::asked::served(order) {
-        return box_need(order);
+        return tape_words::words_for(box_need(order));
     }
     0
 }
 
-pub fn masked_box(order: usize, input: &[u8], tape: &[u8], output: &mut [u8]) -> Answer
+pub fn masked_box(order: usize, input: &[u8], tape: &[u32], output: &mut [u8]) -> Answer
     ensures { λ r. ⌜ outcome r (now (output .exit))
         ≡ Box-outcome order (now (input .entry)) (now (tape .entry)) (now (output .entry)) ⌝ }
 {
@@ -122,6 +134,6 @@ pub fn masked_box(order: usize, input: &[u8], tape: &[u8], output: &mut [u8]) ->
     let logs = gf256::logs();
     let antilogs = gf256::antilogs();
     Answer::Taken(Count {
-        taken: box_core(&logs, &antilogs, order, tape, output),
+        taken: box_on_words(&logs, &antilogs, order, tape, output),
     })
 }

@@ -7,9 +7,9 @@ use native.Mathlib.Omega.{arith}
 use lib.ListN.{length, take, drop}
 use lib.Seq.{drop-drop, take-at, take-all}
 use Rattle.shares.specs.Strings.{Shares, Shared, alone, more, parts, laid}
-use Rattle.shares.specs.Writes.{front}
+use Rattle.xor.specs.Writes.{front}
 use Rattle.shares.proofs.StringsLaws.{shared-parts, parts-laid}
-use Rattle.shares.proofs.WriteLaws.{length-front}
+use Rattle.xor.proofs.WriteLaws.{length-front}
 use Rattle.cipher.specs.Fips197.{rounds, total-words}
 use Rattle.cipher.specs.States.{each-by}
 use Rattle.cipher.specs.Cipher.{schedule-from, schedule-from-need, schedule, schedule-need}

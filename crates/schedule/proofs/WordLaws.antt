@@ -17,9 +17,9 @@ use Rattle.xor.proofs.StringLaws.{at-xors, length-both}
 use Rattle.gf256.specs.Field.{doubled, power}
 use Rattle.gf256.proofs.ProductLaws.{times-two}
 use Rattle.shares.specs.Strings.{Shares, Shared, alone, more, parts, laid}
-use Rattle.shares.specs.Writes.{front}
+use Rattle.xor.specs.Writes.{front}
 use Rattle.shares.proofs.StringsLaws.{shared-parts, parts-laid}
-use Rattle.shares.proofs.WriteLaws.{front-all}
+use Rattle.xor.proofs.WriteLaws.{front-all}
 use Rattle.cipher.specs.Fips197.{Kind, turned, subbed, plain, kind, word, rot-word, rcon}
 use Rattle.cipher.specs.States.{into-first, each-by}
 use Rattle.cipher.specs.Cipher.{subs, subs-need, in-word, words, masked-temp, temp-need}

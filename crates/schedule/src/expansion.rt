@@ -4,26 +4,27 @@ ghost use mathlib.Core.List.{map};
 ghost use Prim.Native.Nat.{suc, _*_, _-_, _≤_};
 ghost use lib.ListN.{length, take};
 ghost use Rattle.gf256.specs.Tables.{Tables};
+ghost use Rattle.tape_words.specs.Words.{bytes-of};
 ghost use Rattle.shares.specs.Strings.{parts, laid};
 ghost use Rattle.cipher.specs.Cipher.{schedule-from, schedule-from-need, schedule, schedule-need};
 ghost use Rattle.schedule.specs.Stored.{written, Expand-fits, Expansion-fits};
 use gf256::Antilogs;
 use gf256::Logs;
 
-// All words from nk on, ascending. Answers with how many bytes were drawn.
+// All words from nk on, ascending. Answers with how many words were drawn.
 fn expand(
     logs: &Logs,
     antilogs: &Antilogs,
     nk: usize,
     d: usize,
     total: usize,
-    tape: &[u8],
+    tape: &[u32],
     keys: &mut [u8],
 ) -> usize
-    requires { ⌜ Expand-fits nk d total (now keys) (now tape) × Tables (now logs) (now antilogs) ⌝ }
-    ensures { λ r. ⌜ (r ≡ schedule-from-need (total - nk) nk nk d)
+    requires { ⌜ Expand-fits nk d total (now keys) (bytes-of (now tape)) × Tables (now logs) (now antilogs) ⌝ }
+    ensures { λ r. ⌜ (4 * r ≡ schedule-from-need (total - nk) nk nk d)
         × (written d total total (now (keys .exit))
-        ≡ schedule-from (total - nk) nk nk d (written d total nk (now (keys .entry))) (now (tape .entry))) ⌝ }
+        ≡ schedule-from (total - nk) nk nk d (written d total nk (now (keys .entry))) (bytes-of (now (tape .entry)))) ⌝ }
 {
     let m = 4 * total;
     let mut at: usize = 0;
@@ -47,19 +48,19 @@ fn copy_key(d: usize, l: usize, m: usize, key: &[u8], keys: &mut [u8])
     }
 }
 
-// The round keys in shares, share after share. Answers with how many bytes were drawn.
+// The round keys in shares, share after share. Answers with how many words were drawn.
 pub fn expand_core(
     logs: &Logs,
     antilogs: &Antilogs,
     nk: usize,
     d: usize,
     key: &[u8],
-    tape: &[u8],
+    tape: &[u32],
     keys: &mut [u8],
 ) -> usize
-    requires { ⌜ Expansion-fits nk d (now key) (now keys) (now tape) × Tables (now logs) (now antilogs) ⌝ }
-    ensures { λ q. ⌜ (q ≡ schedule-need nk d)
-        × (now (keys .exit) ≡ laid (schedule nk d (parts (suc d) (4 * nk) (now (key .entry))) (now (tape .entry)))) ⌝ }
+    requires { ⌜ Expansion-fits nk d (now key) (now keys) (bytes-of (now tape)) × Tables (now logs) (now antilogs) ⌝ }
+    ensures { λ q. ⌜ (4 * q ≡ schedule-need nk d)
+        × (now (keys .exit) ≡ laid (schedule nk d (parts (suc d) (4 * nk) (now (key .entry))) (bytes-of (now (tape .entry))))) ⌝ }
 {
     let total = 4 * (nk + 7);
     copy_key(d, 4 * nk, 4 * total, key, keys);

@@ -6,6 +6,7 @@ ghost use lib.ListN.{length, take, drop};
 ghost use Rattle.xor.specs.Sums.{xors};
 ghost use Rattle.gf256.specs.Field.{power};
 ghost use Rattle.gf256.specs.Tables.{Tables};
+ghost use Rattle.tape_words.specs.Words.{bytes-of};
 ghost use Rattle.shares.specs.Strings.{parts, laid};
 ghost use Rattle.cipher.specs.Fips197.{Kind, kind, word};
 ghost use Rattle.cipher.specs.States.{each-by};
@@ -67,18 +68,18 @@ fn store_all(nk: usize, d: usize, m: usize, i: usize, t: &[u8], keys: &mut [u8])
     }
 }
 
-// The temporary word where i is a multiple of nk: S-boxes, RotWord, and Rcon into share 0. Answers with how many bytes were drawn.
+// The temporary word where i is a multiple of nk: S-boxes, RotWord, and Rcon into share 0. Answers with how many words were drawn.
 fn turned_temp(
     logs: &Logs,
     antilogs: &Antilogs,
     d: usize,
     j: usize,
-    tape: &[u8],
+    tape: &[u32],
     t: &mut [u8],
 ) -> usize
-    requires { ⌜ Turned-fits d j (now tape) (now t) × Tables (now logs) (now antilogs) ⌝ }
-    ensures { λ r. ⌜ (r ≡ subs-need d in-word)
-        × (now (t .exit) ≡ laid (masked-temp d Kind.turned j (parts (suc d) 4 (now (t .entry))) (now (tape .entry)))) ⌝ }
+    requires { ⌜ Turned-fits d j (bytes-of (now tape)) (now t) × Tables (now logs) (now antilogs) ⌝ }
+    ensures { λ r. ⌜ (4 * r ≡ subs-need d in-word)
+        × (now (t .exit) ≡ laid (masked-temp d Kind.turned j (parts (suc d) 4 (now (t .entry))) (bytes-of (now (tape .entry))))) ⌝ }
 {
     let drawn = substitution::boxes::sub_word(logs, antilogs, d, tape, t);
     linear::steps::rot_all(d, t);
@@ -86,19 +87,19 @@ fn turned_temp(
     drawn
 }
 
-// The temporary word as word i wants it. Answers with how many bytes were drawn.
+// The temporary word as word i wants it. Answers with how many words were drawn.
 fn make_temp(
     logs: &Logs,
     antilogs: &Antilogs,
     nk: usize,
     d: usize,
     i: usize,
-    tape: &[u8],
+    tape: &[u32],
     t: &mut [u8],
 ) -> usize
-    requires { ⌜ Temp-fits nk d i (now tape) (now t) × Tables (now logs) (now antilogs) ⌝ }
-    ensures { λ r. ⌜ (r ≡ temp-need d (kind nk i))
-        × (now (t .exit) ≡ laid (masked-temp d (kind nk i) (i / nk) (parts (suc d) 4 (now (t .entry))) (now (tape .entry)))) ⌝ }
+    requires { ⌜ Temp-fits nk d i (bytes-of (now tape)) (now t) × Tables (now logs) (now antilogs) ⌝ }
+    ensures { λ r. ⌜ (4 * r ≡ temp-need d (kind nk i))
+        × (now (t .exit) ≡ laid (masked-temp d (kind nk i) (i / nk) (parts (suc d) 4 (now (t .entry))) (bytes-of (now (tape .entry))))) ⌝ }
 {
     let left = i % nk;
     if left == 0 {
@@ -112,7 +113,7 @@ fn make_temp(
     0
 }
 
-// Word i in all shares. Answers with how many bytes were drawn.
+// Word i in all shares. Answers with how many words were drawn.
 pub fn next_word(
     logs: &Logs,
     antilogs: &Antilogs,
@@ -120,12 +121,12 @@ pub fn next_word(
     d: usize,
     m: usize,
     i: usize,
-    tape: &[u8],
+    tape: &[u32],
     keys: &mut [u8],
 ) -> usize
-    requires { ⌜ Word-fits nk d m i (now keys) (now tape) × Tables (now logs) (now antilogs) ⌝ }
-    ensures { λ r. ⌜ (r ≡ temp-need d (kind nk i))
-        × (now (keys .exit) ≡ word-stored nk d m i (now (keys .entry)) (now (tape .entry))) ⌝ }
+    requires { ⌜ Word-fits nk d m i (now keys) (bytes-of (now tape)) × Tables (now logs) (now antilogs) ⌝ }
+    ensures { λ r. ⌜ (4 * r ≡ temp-need d (kind nk i))
+        × (now (keys .exit) ≡ word-stored nk d m i (now (keys .entry)) (bytes-of (now (tape .entry)))) ⌝ }
 {
     let mut room = [0u8; 36];
     let n = (d + 1) * 4;

@@ -10,6 +10,7 @@ use Rattle.outcomes.specs.declared.Count.{Count}
 use Rattle.outcomes.specs.declared.Answer.{Answer}
 use Rattle.outcomes.specs.declared.Answer.the-variants.{Taken}
 use Rattle.outcomes.specs.Outcome.{Test, test, answered, took, served, reaches, share-length}
+use Rattle.tape_words.specs.Words.{words-for}
 use Rattle.shares.specs.Strings.{split-need}
 use Rattle.shares.specs.Calls.{Byte-tests, Split-tests, Join-tests}
 use Rattle.outcomes.proofs.OutcomeLaws.{Passed, _and_, answered-here, answered-taken, served-bounds, reaches-le}
@@ -41,14 +42,17 @@ byte-through need d x t o a c e f = byte-passed need d x t o (answered-taken _ _
 
 -- ---- split and join
 
--- the tests of a splitting on a share's length that was found
-abbrev split-tests : (l d t o : ℕ) → List Test
-split-tests l d t o = test Order (served d) ∷ test Input (ltb 0 l) ∷ test Output (eqb o (suc d * l)) ∷ test Tape (reaches t (d * l)) ∷ []
+-- the tests of a splitting on a share's length and a need that were found
+abbrev split-tests : (n l d t o : ℕ) → List Test
+split-tests n l d t o = test Order (served d) ∷ test Input (ltb 0 l) ∷ test Output (eqb o (suc d * l)) ∷ test Tape (reaches t n) ∷ []
 
-pub split-answered : (l d x t o : ℕ) (a : Answer) → l ≡ share-length 1 x → a ≡ answered (split-tests l d t o) (took (d * l))
-    → a ≡ answered (Split-tests d x t o) (took (split-need d (share-length 1 x)))
+pub split-answered : (n l d x t o : ℕ) (a : Answer) → l ≡ share-length 1 x → n ≡ words-for (d * l) → a ≡ answered (split-tests n l d t o) (took n)
+    → a ≡ answered (Split-tests d x t o) (took (words-for (split-need d (share-length 1 x))))
 unfolding split-need
-split-answered l d x t o a e f = f ∙ ap (λ (n : ℕ). answered (split-tests n d t o) (took (d * n))) e
+split-answered n l d x t o a e q f =
+    f
+    ∙ ap (λ (m : ℕ). answered (split-tests m l d t o) (took m)) q
+    ∙ ap (λ (m : ℕ). answered (split-tests (words-for (d * m)) m d t o) (took (words-for (d * m)))) e
 
 -- the same of a joining
 abbrev join-tests : (l d o : ℕ) → List Test
@@ -62,7 +66,7 @@ pub record Split-through (d x t o : ℕ) : Type 0 where
   pub order : d ≤ 8
   pub input : 0 < share-length 1 x
   pub output : o ≡ suc d * share-length 1 x
-  pub drawn : split-need d (share-length 1 x) ≤ t
+  pub drawn : words-for (split-need d (share-length 1 x)) ≤ t
 
 pub split-passed : (d x t o : ℕ) → Passed (Split-tests d x t o) → Split-through d x t o
 split-passed d x t o (u and i and r and n and p) =

@@ -1,5 +1,5 @@
-pub mod WriteLaws
 pub mod CallsLaws
 pub mod StringsLaws
 pub mod RefreshLaws
 pub mod RoundTrip
+pub mod OnWordsLaws

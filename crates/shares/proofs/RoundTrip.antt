@@ -8,6 +8,8 @@ use lib.ListN.{length}
 use borrow.Author.Tests.{eq-eqb, lt-ltb}
 use Rattle.outcomes.specs.declared.Count.{Count}
 use Rattle.outcomes.specs.Outcome.{done, took, share-length}
+use Rattle.tape_words.specs.Words.{bytes-of}
+use Rattle.tape_words.proofs.WordsLaws.{words-reach}
 use Rattle.shares.specs.Strings.{joined-string, laid, parts, split, split-need}
 use Rattle.shares.specs.Calls.{Split-outcome, Join-outcome}
 use Rattle.outcomes.proofs.OutcomeLaws.{all, _and_, first-passed, settled-taken, settled-passed}
@@ -26,15 +28,16 @@ pub split-then-join : (d : ℕ) (k : Count) (xs ts o shares p : List ℕ) → Sp
 unfolding Split-outcome Join-outcome
 split-then-join d k xs ts o shares p e h =
     let l = share-length 1 (length xs) in
-    let g = settled-taken _ _ o (laid (split d xs ts)) k shares e in
+    let us = bytes-of ts in
+    let g = settled-taken _ _ o (laid (split d xs us)) k shares e in
     let f = split-passed d (length xs) (length ts) (length o) (g .0) in
     let whole : length xs ≡ l = share-length-is 1 (length xs) (f .input) ∙ one-mul l in
-    let enough : split-need d (length xs) ≤ length ts = subst (λ (m : ℕ). split-need d m ≤ length ts) (sym whole) (f .drawn) in
-    let long : length shares ≡ suc d * l = ap length (g .2) ∙ laid-length (shared-split d xs ts enough) ∙ ap (λ (m : ℕ). suc d * m) whole in
+    let enough : split-need d (length xs) ≤ length us = subst (λ (m : ℕ). split-need d m ≤ length us) (sym whole) (words-reach _ ts (f .drawn)) in
+    let long : length shares ≡ suc d * l = ap length (g .2) ∙ laid-length (shared-split d xs us enough) ∙ ap (λ (m : ℕ). suc d * m) whole in
     let again : share-length (suc d) (length shares) ≡ l =
     ap (share-length (suc d)) long ∙ share-length-laid (suc d) 1 (length xs) (omega arith) (f .input) in
     let back : joined-string (parts (suc d) (share-length (suc d) (length shares)) shares) ≡ xs =
-    ap₂ (λ (m : ℕ) (s : List ℕ). joined-string (parts (suc d) m s)) (again ∙ sym whole) (g .2) ∙ split-laid-joins d xs ts enough in
+    ap₂ (λ (m : ℕ) (s : List ℕ). joined-string (parts (suc d) m s)) (again ∙ sym whole) (g .2) ∙ split-laid-joins d xs us enough in
     let some : 1 ≤ share-length (suc d) (length shares) = rw again (f .input) in
     settled-passed (took 0) p _ (first-passed (g .0) and lt-ltb 0 _ some and eq-eqb (length p) _ (h ∙ whole ∙ sym again) and all)
     ∙ ap (done (took 0)) back

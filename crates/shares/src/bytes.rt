@@ -3,7 +3,7 @@ ghost use mathlib.Core.Path.{_≡_};
 ghost use Prim.Native.Nat.{_≤_};
 ghost use lib.ListN.{length};
 ghost use Rattle.xor.specs.Sums.{xors};
-ghost use Rattle.shares.specs.Writes.{front};
+ghost use Rattle.xor.specs.Writes.{front};
 
 // x over the front of out.
 pub fn put(x: &[u8], out: &mut [u8])

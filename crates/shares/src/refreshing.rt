@@ -4,8 +4,9 @@ ghost use Prim.Native.Nat.{suc, _≤_, _<_};
 ghost use lib.ListN.{length};
 ghost use Rattle.xor.specs.Lists.{at, tab};
 ghost use Rattle.outcomes.specs.Outcome.{outcome, answered, took};
+ghost use Rattle.tape_words.specs.Words.{bytes-of, words-for};
 ghost use Rattle.shares.specs.Refresh;
-ghost use Rattle.shares.specs.Writes.{front};
+ghost use Rattle.xor.specs.Writes.{front};
 ghost use Rattle.shares.specs.Calls.{Byte-tests, Refresh-outcome};
 use outcomes::Answer;
 use outcomes::Count;
@@ -51,7 +52,18 @@ pub fn refresh_core(d: usize, tape: &[u8], x: &mut [u8]) -> usize
     refresh_with(d, tape, &mut first, x)
 }
 
-// The tests of a call that draws so many bytes for the shares of one byte, on the lengths of its buffers.
+// The same on a tape of words. Answers with how many words were drawn.
+fn refresh_on_words(d: usize, tape: &[u32], x: &mut [u8]) -> usize
+    requires { ⌜ (d ≤ 8) × (d < length (now x)) × (words-for (Refresh.refresh-need d) ≤ length (now tape)) ⌝ }
+    ensures { λ r. ⌜ (r ≡ words-for (Refresh.refresh-need d))
+        × (now (x .exit) ≡ Refresh.refreshed d (now (x .entry)) (bytes-of (now (tape .entry)))) ⌝ }
+{
+    let mut drawn = [0u8; 8];
+    tape_words::unpack(refresh_need(d), tape, &mut drawn);
+    tape_words::words_for(refresh_core(d, &drawn, x))
+}
+
+// The tests of a call that draws so many words for the shares of one byte, on the lengths of its buffers.
 pub fn byte_answer(need: usize, order: usize, input: usize, tape: usize, output: usize) -> Answer
     ensures { λ r. ⌜ r ≡ answered (Byte-tests need order input tape output) (took need) ⌝ }
 {
@@ -70,12 +82,12 @@ pub fn byte_answer(need: usize, order: usize, input: usize, tape: usize, output:
     Answer::Taken(Count { taken: need })
 }
 
-pub fn refresh(order: usize, input: &[u8], tape: &[u8], output: &mut [u8]) -> Answer
+pub fn refresh(order: usize, input: &[u8], tape: &[u32], output: &mut [u8]) -> Answer
     ensures { λ r. ⌜ outcome r (now (output .exit))
         ≡ Refresh-outcome order (now (input .entry)) (now (tape .entry)) (now (output .entry)) ⌝ }
 {
     let answer = byte_answer(
-        refresh_need(order),
+        tape_words::words_for(refresh_need(order)),
         order,
         input.len(),
         tape.len(),
@@ -86,6 +98,6 @@ pub fn refresh(order: usize, input: &[u8], tape: &[u8], output: &mut [u8]) -> An
     };
     crate::bytes::put(input, output);
     Answer::Taken(Count {
-        taken: refresh_core(order, tape, output),
+        taken: refresh_on_words(order, tape, output),
     })
 }

@@ -3,9 +3,11 @@ ghost use mathlib.Core.Path.{_≡_};
 ghost use Prim.Native.Nat.{suc, _*_, _≤_};
 ghost use lib.ListN.{length};
 ghost use Rattle.xor.specs.Sums.{xors};
-ghost use Rattle.shares.specs.Writes.{front};
+ghost use Rattle.xor.specs.Writes.{front};
 ghost use Rattle.outcomes.specs.Outcome.{outcome, answered, took, share-length};
+ghost use Rattle.tape_words.specs.Words.{bytes-of, words-for};
 ghost use Rattle.shares.specs.Strings.{joined-string, parts, laid, split, split-need};
+ghost use Rattle.shares.specs.Fits.{Split-fits};
 ghost use Rattle.shares.specs.Calls.{Split-tests, Split-outcome};
 use outcomes::Answer;
 use outcomes::Count;
@@ -38,7 +40,7 @@ fn split_core(d: usize, input: &[u8], tape: &[u8], output: &mut [u8]) -> usize
 
 // The tests of a call, on the lengths of its buffers.
 fn split_answer(order: usize, input: usize, tape: usize, output: usize) -> Answer
-    ensures { λ r. ⌜ r ≡ answered (Split-tests order input tape output) (took (split-need order (share-length 1 input))) ⌝ }
+    ensures { λ r. ⌜ r ≡ answered (Split-tests order input tape output) (took (words-for (split-need order (share-length 1 input)))) ⌝ }
 {
     if !asked::served(order) {
         return Answer::Refused(Refusal::Order);
@@ -50,13 +52,25 @@ fn split_answer(order: usize, input: usize, tape: usize, output: usize) -> Answe
     if output != (order + 1) * l {
         return Answer::Refused(Refusal::Output);
     }
-    if tape < order * l {
+    let need = tape_words::words_for(order * l);
+    if tape < need {
         return Answer::Refused(Refusal::Tape);
     }
-    Answer::Taken(Count { taken: order * l })
+    Answer::Taken(Count { taken: need })
 }
 
-pub fn split(order: usize, input: &[u8], tape: &[u8], output: &mut [u8]) -> Answer
+// The same on a tape of words: at most 8 masks of 32 bytes. Answers with how many words were drawn.
+fn split_on_words(d: usize, input: &[u8], tape: &[u32], output: &mut [u8]) -> usize
+    requires { ⌜ Split-fits d (now input) (now tape) (now output) ⌝ }
+    ensures { λ r. ⌜ (r ≡ words-for (d * length (now (input .entry))))
+        × (now (output .exit) ≡ laid (split d (now (input .entry)) (bytes-of (now (tape .entry))))) ⌝ }
+{
+    let mut drawn = [0u8; 256];
+    tape_words::unpack(d * input.len(), tape, &mut drawn);
+    tape_words::words_for(split_core(d, input, &drawn, output))
+}
+
+pub fn split(order: usize, input: &[u8], tape: &[u32], output: &mut [u8]) -> Answer
     ensures { λ r. ⌜ outcome r (now (output .exit))
         ≡ Split-outcome order (now (input .entry)) (now (tape .entry)) (now (output .entry)) ⌝ }
 {
@@ -65,6 +79,6 @@ pub fn split(order: usize, input: &[u8], tape: &[u8], output: &mut [u8]) -> Answ
         return answer;
     };
     Answer::Taken(Count {
-        taken: split_core(order, input, tape, output),
+        taken: split_on_words(order, input, tape, output),
     })
 }

@@ -13,8 +13,8 @@ use Rattle.xor.specs.Pairs.{before-row}
 use Rattle.xor.proofs.ListsLaws.{runs-cong, tab-cong, tab-at, length-runs, length-tab, map-runs, map-tab}
 use Rattle.gf256.specs.Field.{times}
 use Rattle.isw.specs.Place.{part, running, byte, row-places, drawn}
-use Rattle.shares.specs.Writes.{front}
-use Rattle.shares.proofs.WriteLaws.{at-front}
+use Rattle.xor.specs.Writes.{front}
+use Rattle.xor.proofs.WriteLaws.{at-front}
 use Rattle.masking.specs.Steps.{starts, owns, pairs-taken}
 use Rattle.sheet_parts.specs.Parts.{sums-before, starts-put, row-put, table-rows}
 use Rattle.masking.proofs.SumsLaws.{start-sum, sum-of, Sums, sums-start, row-own-next, row-taken-sums}

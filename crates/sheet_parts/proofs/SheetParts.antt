@@ -17,8 +17,8 @@ use Rattle.gf256.specs.Field.{times}
 use Rattle.isw.specs.Place.{Place, left, right, part, half-sum, other, byte, pair-places, pair-row, row-places, places, place-count, drawn}
 use Rattle.isw.specs.Place.{product-need, value, sheet}
 use Rattle.isw.proofs.OrderLaws.{product-need-is, twice-need}
-use Rattle.shares.specs.Writes.{front}
-use Rattle.shares.proofs.WriteLaws.{part-rest, front-part, front-all, at-front}
+use Rattle.xor.specs.Writes.{front}
+use Rattle.xor.proofs.WriteLaws.{part-rest, front-part, front-all, at-front}
 use Rattle.masking.specs.Steps.{uppers, halves, lowers, backs}
 use Rattle.sheet_parts.specs.Parts.{pair-of, bytes-of, five-rows, row-bytes, pairs-before, sums-before, table-rows}
 use Rattle.masking.proofs.TermsLaws.{product-need-rows}

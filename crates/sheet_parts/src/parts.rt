@@ -6,7 +6,7 @@ ghost use lib.ListN.{length};
 ghost use Rattle.xor.specs.Lists.{at};
 ghost use Rattle.gf256.specs.Tables.{Tables};
 ghost use Rattle.isw.specs.Place as Place;
-ghost use Rattle.shares.specs.Writes.{front};
+ghost use Rattle.xor.specs.Writes.{front};
 ghost use Rattle.masking.specs.Steps as Steps;
 ghost use Rattle.masking.specs.Fits.{Row-fits, Rows-fit};
 ghost use Rattle.sheet_parts.specs.Fits.{Pairs-fit};

@@ -8,8 +8,9 @@ ghost use Rattle.gf256.specs.Field as Field;
 ghost use Rattle.gf256.specs.Tables.{Tables};
 ghost use Rattle.isw.specs.Place as Place;
 ghost use Rattle.outcomes.specs.Outcome as Outcome;
+ghost use Rattle.tape_words.specs.Words.{bytes-of, words-for};
 ghost use Rattle.outcomes.specs.Outcome.{outcome};
-ghost use Rattle.shares.specs.Writes.{front};
+ghost use Rattle.xor.specs.Writes.{front};
 ghost use Rattle.masking.specs.Fits.{Factors-fit};
 ghost use Rattle.sheets.specs.Fits.{Room-fits};
 ghost use Rattle.sheet_parts.specs.Parts.{pairs-before, sums-before, table-rows};
@@ -147,11 +148,31 @@ pub fn sheet_core(
     )
 }
 
+// The same on a tape of words. Answers with how many words were drawn.
+fn sheet_on_words(
+    logs: &Logs,
+    antilogs: &Antilogs,
+    d: usize,
+    a: &[u8],
+    b: &[u8],
+    tape: &[u32],
+    out: &mut [u8],
+) -> usize
+    requires { ⌜ Factors-fit d (now a) (now b) (bytes-of (now tape)) × (length (now out) ≡ Place.place-count d)
+        × Tables (now logs) (now antilogs) ⌝ }
+    ensures { λ k. ⌜ (k ≡ words-for (Place.product-need d))
+        × (now (out .exit) ≡ Place.sheet Field.times d (now (a .entry)) (now (b .entry)) (bytes-of (now (tape .entry)))) ⌝ }
+{
+    let mut drawn = [0u8; 36];
+    tape_words::unpack(masking::product::product_need(d), tape, &mut drawn);
+    tape_words::words_for(sheet_core(logs, antilogs, d, a, b, &drawn, out))
+}
+
 pub fn product_sheet(
     order: usize,
     left: &[u8],
     right: &[u8],
-    tape: &[u8],
+    tape: &[u32],
     output: &mut [u8],
 ) -> Answer
     ensures { λ r. ⌜ outcome r (now (output .exit))
@@ -171,6 +192,6 @@ pub fn product_sheet(
     let logs = gf256::logs();
     let antilogs = gf256::antilogs();
     Answer::Taken(Count {
-        taken: sheet_core(&logs, &antilogs, order, left, right, tape, output),
+        taken: sheet_on_words(&logs, &antilogs, order, left, right, tape, output),
     })
 }

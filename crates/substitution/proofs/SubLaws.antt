@@ -42,6 +42,11 @@ spaced-within first stride m l h q g = let e : m ≤ 3 = omega arith in omega (a
 pub spaced-count : (first stride l : ℕ) → l ≡ 4 * stride → first < stride → l / stride ≡ 4
 spaced-count first stride l q g = ap (λ (b : ℕ). b / stride) q ∙ mul-div-cancel 4 (omega arith)
 
+-- they draw four times as many bytes as one: as many words
+pub spaced-need : (d first stride : ℕ) → subs-need d (spaced first stride) ≡ 4 * box-need d
+unfolding subs-need spaced tab runs
+spaced-need d first stride = omega arith
+
 unfoldable pub four-boxes : Direction → (d first stride : ℕ) → Loop Shares 4
 unfolding subs-of subs-need spaced tab runs
 four-boxes w d first stride = record {

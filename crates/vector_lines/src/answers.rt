@@ -2,7 +2,7 @@
 use crate::lines;
 use outcomes::Answer;
 
-// What came of one call or of several: how many tape bytes were taken, or document 01's number of the refusal. Refusal 0 is none of the document's.
+// What came of one call or of several: how many tape words were taken, or document 01's number of the refusal. Refusal 0 is none of the document's.
 pub struct Came {
     pub served: bool,
     pub number: usize,
@@ -22,7 +22,7 @@ pub fn of(a: Answer) -> Came {
 }
 
 // The tape that a call leaves. A refused one leaves none, so that the calls behind it are refused too.
-pub fn rest(tape: &[u8], c: Came) -> &[u8] {
+pub fn rest(tape: &[u32], c: Came) -> &[u32] {
     if c.served {
         return shares::unused_tape(tape, c.number);
     }

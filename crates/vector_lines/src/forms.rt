@@ -1,9 +1,10 @@
 // The form of a line: KIND NAME ORDER TAPE KEY BLOCK WANTED taken|refused NUMBER. ORDER and NUMBER are decimal, KEY, BLOCK and WANTED hexadecimal.
 // - encrypt, prepared, decrypt, trip (encryption and back), keys (key expansion): KEY and BLOCK are plain, and split on the front of the tape. TAPE 0
 //   is all zero, 1 all ff, and any other number starts a pseudo-random one. WANTED is what the output joins to, of keys all round keys. NUMBER is
-//   how many tape bytes the calls take behind the splitting.
-// - lengths: the route NAME on zeros. TAPE, KEY and BLOCK are how many, in decimal, and there is no output to compare.
-// - read: the places BLOCK, four digits each, of the product of two bytes, whose shares are KEY. TAPE is the tape, and WANTED the bytes there.
+//   how many tape words the calls take behind the splitting.
+// - lengths: the route NAME on zeros. TAPE is how many words, KEY and BLOCK how many bytes, in decimal, and there is no output to compare.
+// - read: the places BLOCK, four digits each, of the product of two bytes, whose shares are KEY. TAPE is the tape's words, eight digits each, and
+//   WANTED the bytes there.
 // A KIND, a NAME that is a route, and taken or refused are told by their first letter. A line whose NAME is `-` is shown only if it differs.
 use crate::lines;
 
@@ -45,6 +46,9 @@ fn fits(kind: Kind, word: &[u8], k: usize) -> bool {
         _ => {
             if k <= last {
                 return lines::is_number(word);
+            }
+            if k == 3 {
+                return lines::is_tape(word);
             }
             lines::is_bytes(word)
         }

@@ -1,10 +1,13 @@
-// The text of a line: words with one space between them, read as numbers and as bytes in hexadecimal.
+// The text of a line: words with one space between them, read as numbers, as bytes in hexadecimal, and as a tape.
+ghost use mathlib.Core.Path.{_≡_};
 ghost use Prim.Native.Nat.{_≤_};
 ghost use lib.ListN.{length};
 use text::hexadecimal;
 
-// Room for standard input, and for a tape. A longer input is not read to its end, and the counts at the end of the output tell.
-pub fn buffer() -> [u8; 196608] {
+// Room for standard input, and for the bytes of a tape. A longer input is not read to its end, and the counts at the end of the output tell.
+pub fn buffer() -> [u8; 196608]
+    ensures { λ r. ⌜ 196608 ≡ length r ⌝ }
+{
     [0; 196608]
 }
 
@@ -80,6 +83,11 @@ pub fn is_bytes(word: &[u8]) -> bool {
     0 < n && n <= 480 && n % 2 == 0 && hexadecimal::are_digits(word)
 }
 
+// Whether a word is a tape: words of 32 bits, eight digits each.
+pub fn is_tape(word: &[u8]) -> bool {
+    word.len() % 8 == 0 && is_bytes(word)
+}
+
 // The bytes of word k, at the front of out. Answers with how many they are.
 pub fn bytes(line: &[u8], k: usize, out: &mut [u8]) -> usize
     ensures { λ r. ⌜ r ≤ length (now (out .exit)) ⌝ }
@@ -91,5 +99,19 @@ pub fn bytes(line: &[u8], k: usize, out: &mut [u8]) -> usize
     }
     let digits = n * 2;
     hexadecimal::fill(&word[0..digits], &mut out[0..n]);
+    n
+}
+
+// The same of the words of a tape.
+pub fn tape(line: &[u8], k: usize, out: &mut [u32]) -> usize
+    ensures { λ r. ⌜ r ≤ length (now (out .exit)) ⌝ }
+{
+    let word = word(line, k);
+    let n = word.len() / 8;
+    if out.len() < n {
+        return 0;
+    }
+    let digits = n * 8;
+    hexadecimal::fill_words(&word[0..digits], &mut out[0..n]);
     n
 }

@@ -21,7 +21,7 @@ fn as_single(
     order: usize,
     key: &[u8],
     input: &[u8],
-    tape: &[u8],
+    tape: &[u32],
     output: &[u8],
     taken: usize,
 ) -> Came {
@@ -49,7 +49,7 @@ fn expanded(order: usize, length: usize) -> usize
 }
 
 // Encryption from prepared keys, on the tape that the preparation left.
-fn prepared(order: usize, key: &[u8], input: &[u8], tape: &[u8], output: &mut [u8]) -> Came {
+fn prepared(order: usize, key: &[u8], input: &[u8], tape: &[u32], output: &mut [u8]) -> Came {
     let mut room = io::buffer();
     let n = expanded(order, key.len());
     let keys = &mut room[0..n];
@@ -64,7 +64,7 @@ fn prepared(order: usize, key: &[u8], input: &[u8], tape: &[u8], output: &mut [u
 }
 
 // An encryption, and the decryption of its shares on the tape that it left.
-fn trip(order: usize, key: &[u8], input: &[u8], tape: &[u8], output: &mut [u8]) -> Came {
+fn trip(order: usize, key: &[u8], input: &[u8], tape: &[u32], output: &mut [u8]) -> Came {
     let mut room = io::buffer();
     let n = in_shares(order, 16);
     let ciphers = &mut room[0..n];
@@ -86,7 +86,7 @@ pub fn run(
     order: usize,
     key: &[u8],
     input: &[u8],
-    tape: &[u8],
+    tape: &[u32],
     output: &mut [u8],
 ) -> Came {
     match kind {

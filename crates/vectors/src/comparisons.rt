@@ -1,6 +1,4 @@
 // A line is run, and what came is compared with what it wants.
-use crate::runs;
-use crate::values;
 use text::hexadecimal;
 use vector_lines::answers;
 use vector_lines::answers::Came;
@@ -10,6 +8,9 @@ use vector_lines::forms;
 use vector_lines::forms::Kind;
 use vector_lines::lines;
 use vector_lines::tapes;
+use vector_routes::zeros;
+use vector_runs::places;
+use vector_runs::runs;
 
 // An output; of round keys the last one.
 fn print_output(output: &[u8]) {
@@ -41,8 +42,8 @@ fn shown(line: &[u8], wanted: &[u8], output: &[u8], c: Came, t: Tally) -> Tally 
 fn come(kind: Kind, line: &[u8], output: &mut [u8]) -> Came {
     tapes::fill(1, output);
     match kind {
-        Kind::Lengths => values::call(line),
-        Kind::Read => values::read(line, output),
+        Kind::Lengths => zeros::call(line),
+        Kind::Read => places::read(line, output),
         _ => runs::run(kind, line, output),
     }
 }

@@ -3,8 +3,6 @@
 // run and what is wanted of it (forms.rt of vector_lines). A line of output is that line with what came in the place of what is wanted.
 mod comparisons;
 mod products;
-mod runs;
-mod values;
 
 use vector_lines::counts;
 use vector_lines::counts::Tally;

@@ -7,6 +7,8 @@ use lib.ListN.{length}
 use Rattle.gf256.specs.Tables.{lent}
 use Rattle.outcomes.specs.Outcome.{took}
 use Rattle.outcomes.proofs.OutcomeLaws.{settled-refused, settled-done}
+use Rattle.tape_words.specs.Words.{bytes-of, words-for}
+use Rattle.tape_words.proofs.WordsLaws.{words-reach, whole-words}
 use Rattle.cipher.specs.Cipher.{encrypted-with-need, encrypted-with-laid}
 use Rattle.lengths.specs.Lengths.{prepared-words}
 use Rattle.lengths.proofs.LengthsLaws.{prepared-long}
@@ -34,7 +36,7 @@ prepared-words-requires c κs =
     let q = c .before .before in
     let a = q .before .before .before .before .before .args in
     let nk = prepared-words (a .order) (length (now (a .prepared))) in
-    block-through nk (encrypted-with-need nk (a .order)) (a .order) (length (now (a .input))) (length (now (a .tape)))
+    block-through nk (words-for (encrypted-with-need nk (a .order))) (a .order) (length (now (a .input))) (length (now (a .tape)))
     (length (now (a .output))) _ _ _
     (q .prepared-answer .ensures) (c .enum-told .given .1) .order
 
@@ -53,7 +55,7 @@ rounds-core-requires c κs =
     let q = told .before .before in
     let a = q .before .before .before .before .before .args in
     let nk = prepared-words (a .order) (length (now (a .prepared))) in
-    let t = block-through nk (encrypted-with-need nk (a .order)) (a .order) (length (now (a .input))) (length (now (a .tape)))
+    let t = block-through nk (words-for (encrypted-with-need nk (a .order))) (a .order) (length (now (a .input))) (length (now (a .tape)))
     (length (now (a .output))) _ _ _
     (q .prepared-answer .ensures) (told .enum-told .given .1)
     in
@@ -64,7 +66,7 @@ rounds-core-requires c κs =
         keyed = rw (w .0) (prepared-keys-length _ (a .order) _ (prepared-long (a .order) (length (now (a .prepared))) (t .some)));
         input = t .input;
         output = t .output;
-        drawn = rw (w .0) (t .drawn);
+        drawn = rw (w .0) (words-reach _ (now (a .tape)) (t .drawn));
       },
       lent (logs .logs .ensures) (antilogs .antilogs .ensures),
     )
@@ -83,9 +85,9 @@ returns-2 c =
     let w = words .prepared-words .ensures .0 in
     let made = core .rounds-core .ensures in
     settled-done _ _ _ _ _ (q .prepared-answer .ensures) _ _ _ (told .enum-told .given .1)
-    (ap took (made .0 ∙ ap (λ (n : ℕ). encrypted-with-need n (a .order)) w))
-    (encrypted-with-made _ (a .order) (now (a .prepared)) (now (a .input)) (now (a .tape)) _ (made .1)
-    ∙ ap (λ (n : ℕ). encrypted-with-laid n (a .order) (now (a .prepared)) (now (a .input)) (now (a .tape))) w)
+    (ap took (whole-words _ _ (made .0) ∙ ap (λ (n : ℕ). words-for (encrypted-with-need n (a .order))) w))
+    (encrypted-with-made _ (a .order) (now (a .prepared)) (now (a .input)) (bytes-of (now (a .tape))) _ (made .1)
+    ∙ ap (λ (n : ℕ). encrypted-with-laid n (a .order) (now (a .prepared)) (now (a .input)) (bytes-of (now (a .tape)))) w)
 
 pub encrypt-prepared-spec : {M : Type 1} → statement M
 encrypt-prepared-spec =

@@ -7,6 +7,8 @@ use lib.ListN.{length}
 use Rattle.gf256.specs.Tables.{lent}
 use Rattle.outcomes.specs.Outcome.{took}
 use Rattle.outcomes.proofs.OutcomeLaws.{settled-refused, settled-done}
+use Rattle.tape_words.specs.Words.{bytes-of, words-for}
+use Rattle.tape_words.proofs.WordsLaws.{words-reach, whole-words}
 use Rattle.cipher.specs.Cipher.{schedule-need, prepared-laid}
 use Rattle.lengths.proofs.LengthsLaws.{key-length}
 use Rattle.lengths.proofs.PreviewsLaws.{preparation-through}
@@ -59,7 +61,7 @@ expand-core-requires c κs =
         small = w .1;
         long = rw (w .0) (key-length (a .order) (length (now (a .key))) (t .some));
         keyed = rw (w .0) (prepared-keys-length _ (a .order) _ (t .output));
-        drawn = rw (w .0) (t .drawn);
+        drawn = rw (w .0) (words-reach _ (now (a .tape)) (t .drawn));
       },
       lent (logs .logs .ensures) (antilogs .antilogs .ensures),
     )
@@ -78,9 +80,9 @@ returns-2 c =
     let w = words .key-words .ensures .0 in
     let made = core .expand-core .ensures in
     settled-done _ _ _ _ _ (q .preparation-answer .ensures) _ _ _ (told .enum-told .given .1)
-    (ap took (made .0 ∙ ap (λ (n : ℕ). schedule-need n (a .order)) w))
-    (prepared-made _ (a .order) (now (a .key)) (now (a .tape)) _ (made .1)
-    ∙ ap (λ (n : ℕ). prepared-laid n (a .order) (now (a .key)) (now (a .tape))) w)
+    (ap took (whole-words _ _ (made .0) ∙ ap (λ (n : ℕ). words-for (schedule-need n (a .order))) w))
+    (prepared-made _ (a .order) (now (a .key)) (bytes-of (now (a .tape))) _ (made .1)
+    ∙ ap (λ (n : ℕ). prepared-laid n (a .order) (now (a .key)) (bytes-of (now (a .tape)))) w)
 
 pub prepare-spec : {M : Type 1} → statement M
 prepare-spec =

@@ -1,7 +1,7 @@
 -- `aes::single::block_core` meets its contract. Assumes nothing.
 use mathlib.Core.Path.{_∙_}
 use borrow.Author.Needs.{needs}
-use Rattle.shares.proofs.WriteLaws.{length-part-first}
+use Rattle.xor.proofs.WriteLaws.{length-part-first}
 use Rattle.aes.proofs.CallsLaws.{prepared-keys-length}
 use Rattle.aes.proofs.single.block_core.Statement.{statement}
 use Rattle.aes.proofs.single.block_core.Tie as tie

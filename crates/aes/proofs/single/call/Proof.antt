@@ -7,6 +7,8 @@ use lib.ListN.{length}
 use Rattle.gf256.specs.Tables.{lent}
 use Rattle.outcomes.specs.Outcome.{took}
 use Rattle.outcomes.proofs.OutcomeLaws.{settled-refused, settled-done}
+use Rattle.tape_words.specs.Words.{bytes-of, words-for}
+use Rattle.tape_words.proofs.WordsLaws.{words-reach, whole-words}
 use Rattle.cipher.specs.Cipher.{cipher-need}
 use Rattle.lengths.specs.Lengths.{key-words}
 use Rattle.lengths.proofs.LengthsLaws.{key-length}
@@ -37,7 +39,8 @@ key-words-requires c κs =
     let q = c .before .before in
     let a = q .before .before .before .before .before .args in
     let nk = key-words (a .order) (length (now (a .key))) in
-    block-through nk (cipher-need nk (a .order)) (a .order) (length (now (a .input))) (length (now (a .tape))) (length (now (a .output))) _ _ _
+    block-through nk (words-for (cipher-need nk (a .order))) (a .order) (length (now (a .input))) (length (now (a .tape)))
+    (length (now (a .output))) _ _ _
     (q .single-answer .ensures) (c .enum-told .given .1) .order
 
 logs-requires : tie.Need-logs-requires
@@ -55,7 +58,7 @@ block-core-requires c κs =
     let q = told .before .before in
     let a = q .before .before .before .before .before .args in
     let nk = key-words (a .order) (length (now (a .key))) in
-    let t = block-through nk (cipher-need nk (a .order)) (a .order) (length (now (a .input))) (length (now (a .tape)))
+    let t = block-through nk (words-for (cipher-need nk (a .order))) (a .order) (length (now (a .input))) (length (now (a .tape)))
     (length (now (a .output))) _ _ _
     (q .single-answer .ensures) (told .enum-told .given .1)
     in
@@ -67,7 +70,7 @@ block-core-requires c κs =
         long = rw (w .0) (key-length (a .order) (length (now (a .key))) (t .some));
         input = t .input;
         output = t .output;
-        drawn = rw (w .0) (t .drawn);
+        drawn = rw (w .0) (words-reach _ (now (a .tape)) (t .drawn));
       },
       lent (logs .logs .ensures) (antilogs .antilogs .ensures),
     )
@@ -85,8 +88,8 @@ returns-2 c =
     let w = words .key-words .ensures .0 in
     let made = core .block-core .ensures in
     settled-done _ _ _ _ _ (q .single-answer .ensures) _ _ _ (told .enum-told .given .1)
-    (ap took (made .0 ∙ ap (λ (n : ℕ). cipher-need n (a .order)) w))
-    (made .1 ∙ ap (λ (n : ℕ). laid-of (a .which) n (a .order) (now (a .key)) (now (a .input)) (now (a .tape))) w)
+    (ap took (whole-words _ _ (made .0) ∙ ap (λ (n : ℕ). words-for (cipher-need n (a .order))) w))
+    (made .1 ∙ ap (λ (n : ℕ). laid-of (a .which) n (a .order) (now (a .key)) (now (a .input)) (bytes-of (now (a .tape)))) w)
     ∙ single-is (a .which) (a .order) (now (a .key)) (now (a .input)) (now (a .tape)) (now (a .output))
 
 pub call-spec : {M : Type 1} → statement M

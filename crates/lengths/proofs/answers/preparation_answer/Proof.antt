@@ -7,6 +7,7 @@ use Rattle.xor.proofs.Tests.{not-true, not-false}
 use Rattle.outcomes.specs.declared.Answer.the-variants.{Taken}
 use Rattle.outcomes.specs.Outcome.{took, reaches}
 use Rattle.outcomes.proofs.OutcomeLaws.{answered-here, answered-next, answered-none, served-bounds, lt-reaches, le-reaches}
+use Rattle.tape_words.specs.Words.{words-for}
 use Rattle.cipher.specs.Cipher.{schedule-need}
 use Rattle.lengths.specs.Lengths.{Key-size, prepared-length}
 use Rattle.lengths.proofs.LengthsLaws.{key-sized}
@@ -58,9 +59,13 @@ schedule-need-requires c κs =
       subst Key-size (sym e) (key-sized (a .order) (a .key) (some-words _ _ e (k .if2 .left))),
     )
 
+words-for-requires : tie.Need-words-for-requires
+words-for-requires c κs = search needs
+
 returns-4 : tie.Need-returns-4
 returns-4 c =
-    let n = c .before in
+    let words = c .before in
+    let n = words .before in
     let r = n .before in
     let l = r .before in
     let k = l .before in
@@ -69,14 +74,15 @@ returns-4 c =
     let a = o .before .before .args in
     let e = w .key-words .ensures .0 in
     let size = l .prepared-length .ensures .0 ∙ ap (λ (n : ℕ). prepared-length n (a .order)) e in
-    let need = n .schedule-need .ensures .0 ∙ ap (λ (n : ℕ). schedule-need n (a .order)) e in
+    let need = words .words-for .ensures ∙ ap words-for (n .schedule-need .ensures .0 ∙ ap (λ (n : ℕ). schedule-need n (a .order)) e) in
     keyed-some _ _ _ _ _ _ e (sym (o .before .served .ensures) ∙ not-false _ (o .if1 .left)) (k .if2 .left)
     (answered-next _ _ _ _ (eq-eqb _ _ (r .if3 .left ∙ size))
     (answered-here _ _ _ _ (ap (reaches (a .tape)) (sym need) ∙ lt-reaches _ _ (c .if4 .taken))))
 
 returns-5 : tie.Need-returns-5
 returns-5 c =
-    let n = c .before in
+    let words = c .before in
+    let n = words .before in
     let r = n .before in
     let l = r .before in
     let k = l .before in
@@ -85,7 +91,7 @@ returns-5 c =
     let a = o .before .before .args in
     let e = w .key-words .ensures .0 in
     let size = l .prepared-length .ensures .0 ∙ ap (λ (n : ℕ). prepared-length n (a .order)) e in
-    let need = n .schedule-need .ensures .0 ∙ ap (λ (n : ℕ). schedule-need n (a .order)) e in
+    let need = words .words-for .ensures ∙ ap words-for (n .schedule-need .ensures .0 ∙ ap (λ (n : ℕ). schedule-need n (a .order)) e) in
     keyed-some _ _ _ _ _ _ e (sym (o .before .served .ensures) ∙ not-false _ (o .if1 .left)) (k .if2 .left)
     (answered-next _ _ _ _ (eq-eqb _ _ (r .if3 .left ∙ size))
     (answered-next _ _ _ _ (ap (reaches (a .tape)) (sym need) ∙ le-reaches _ _ (c .if4 .left))
@@ -102,5 +108,6 @@ preparation-answer-spec =
     prepared-length-requires
     returns-3
     schedule-need-requires
+    words-for-requires
     returns-4
     returns-5)

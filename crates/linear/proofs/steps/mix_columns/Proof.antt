@@ -9,7 +9,7 @@ use lib.ListN.{length, getD, length-set}
 use Rattle.xor.specs.Lists.{at}
 use Rattle.gf256.specs.declared.Direction.{Direction}
 use Rattle.gf256.specs.Directions.{mixed-of}
-use Rattle.shares.proofs.WriteLaws.{over, over-none, over-more, over-all}
+use Rattle.xor.proofs.WriteLaws.{over, over-none, over-more, over-all}
 use Rattle.cipher.specs.Fips197.{cell, state}
 use Rattle.linear.proofs.StepLaws.{columns-mixed}
 use Rattle.linear.proofs.steps.mix_columns.Statement.{statement}

@@ -7,7 +7,7 @@ use borrow.Author.Needs.{needs}
 use denote.Ref.{now}
 use lib.ListN.{length, getD, length-set}
 use Rattle.xor.specs.Lists.{at}
-use Rattle.shares.proofs.WriteLaws.{over, over-none, over-more, over-all}
+use Rattle.xor.proofs.WriteLaws.{over, over-none, over-more, over-all}
 use Rattle.gf256.specs.declared.Direction.{Direction}
 use Rattle.cipher.specs.Fips197.{cell, state}
 use Rattle.linear.specs.Steps.{turn-of}

@@ -6,6 +6,7 @@ use lib.ListN.{length}
 use Rattle.gf256.specs.Tables.{lent}
 use Rattle.outcomes.specs.Outcome.{took}
 use Rattle.outcomes.proofs.OutcomeLaws.{settled-refused, settled-done}
+use Rattle.tape_words.proofs.WordsLaws.{words-reach}
 use Rattle.masking.specs.Calls.{Product-outcome}
 use Rattle.masking.proofs.CallsLaws.{factors-answered, factors-through}
 use Rattle.masking.proofs.product.masked_product.Statement.{statement}
@@ -39,8 +40,8 @@ logs-requires c κs = search needs
 antilogs-requires : tie.Need-antilogs-requires
 antilogs-requires c κs = search needs
 
-product-core-requires : tie.Need-product-core-requires
-product-core-requires c κs =
+product-on-words-requires : tie.Need-product-on-words-requires
+product-on-words-requires c κs =
     let antilogs = c .before .before .before in
     let logs = antilogs .before in
     let told = logs .before in
@@ -50,7 +51,7 @@ product-core-requires c κs =
     (q .before .share-count .ensures .0) (q .factors-answer .ensures)
     in
     let h = factors-through _ (v .order) _ _ _ _ _ _ _ e (told .enum-told .given .1) in (
-      record { order = h .order; left = h .left; right = h .right; drawn = h .drawn },
+      record { order = h .order; left = h .left; right = h .right; drawn = words-reach _ (now (v .tape)) (h .drawn) },
       h .output,
       lent (logs .logs .ensures) (antilogs .antilogs .ensures),
     )
@@ -68,7 +69,7 @@ returns-2 c =
     let e = factors-answered _ _ (v .order) (length (now (v .left))) (length (now (v .right))) (length (now (v .tape))) (length (now (v .output))) _ _
     (q .before .share-count .ensures .0) (q .factors-answer .ensures)
     in
-    settled-done _ _ _ _ _ e _ _ _ (told .enum-told .given .1) (ap took (core .product-core .ensures .0)) (core .product-core .ensures .1)
+    settled-done _ _ _ _ _ e _ _ _ (told .enum-told .given .1) (ap took (core .product-on-words .ensures .0)) (core .product-on-words .ensures .1)
 
 pub masked-product-spec : {M : Type 1} → statement M
 masked-product-spec =
@@ -81,6 +82,6 @@ masked-product-spec =
     returns
     logs-requires
     antilogs-requires
-    product-core-requires
+    product-on-words-requires
     same-length
     returns-2)

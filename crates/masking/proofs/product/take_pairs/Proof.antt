@@ -7,7 +7,7 @@ use denote.Ref.{now}
 use lib.ListN.{length, drop}
 use Rattle.xor.specs.Pairs.{before-row}
 use Rattle.isw.specs.Place.{product-need}
-use Rattle.shares.proofs.WriteLaws.{part-rest}
+use Rattle.xor.proofs.WriteLaws.{part-rest}
 use Rattle.masking.proofs.TermsLaws.{product-need-last, row-counts, row-fits}
 use Rattle.masking.proofs.SumsLaws.{length-starts, Sums, sums-start, row-taken-sums, sums-all}
 use Rattle.masking.proofs.product.take_pairs.Statement.{statement}

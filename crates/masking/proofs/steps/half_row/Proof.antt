@@ -7,7 +7,7 @@ use denote.Ref.{now}
 use lib.Bits.{bitXor}
 use lib.ListN.{length, length-set}
 use Rattle.xor.specs.Lists.{at}
-use Rattle.shares.proofs.WriteLaws.{over, over-none, over-more, over-front}
+use Rattle.xor.proofs.WriteLaws.{over, over-none, over-more, over-front}
 use Rattle.masking.specs.Steps.{uppers, halves}
 use Rattle.masking.proofs.steps.half_row.Statement.{statement}
 use Rattle.masking.proofs.steps.half_row.Tie as tie

@@ -6,7 +6,7 @@ use borrow.Author.Needs.{needs}
 use lib.ListN.{length, length-set}
 use Rattle.xor.specs.Lists.{at}
 use Rattle.gf256.specs.Field.{times}
-use Rattle.shares.proofs.WriteLaws.{over, over-none, over-more, over-all}
+use Rattle.xor.proofs.WriteLaws.{over, over-none, over-more, over-all}
 use Rattle.masking.proofs.steps.start_sums.Statement.{statement}
 use Rattle.masking.proofs.steps.start_sums.Tie as tie
 

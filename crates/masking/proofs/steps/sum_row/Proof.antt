@@ -7,7 +7,7 @@ use denote.Ref.{now}
 use lib.ListN.{length, length-set}
 use Rattle.xor.specs.Lists.{at}
 use Rattle.isw.specs.Place.{running}
-use Rattle.shares.proofs.WriteLaws.{over, over-none, over-more, over-front}
+use Rattle.xor.proofs.WriteLaws.{over, over-none, over-more, over-front}
 use Rattle.masking.specs.Steps.{behind-taken}
 use Rattle.masking.proofs.SumsLaws.{own-next, own-last, behind-next, row-taken-last}
 use Rattle.masking.proofs.steps.sum_row.Statement.{statement}

@@ -6,7 +6,7 @@ use borrow.Author.Needs.{needs}
 use lib.ListN.{length, length-set}
 use Rattle.xor.specs.Lists.{at}
 use Rattle.gf256.specs.Exponents.{raised-to}
-use Rattle.shares.proofs.WriteLaws.{over, over-none, over-more}
+use Rattle.xor.proofs.WriteLaws.{over, over-none, over-more}
 use Rattle.power254.proofs.EachLaws.{over-map}
 use Rattle.power254.proofs.powers.raise.Statement.{statement}
 use Rattle.power254.proofs.powers.raise.Tie as tie

@@ -6,7 +6,7 @@ use borrow.Author.Needs.{needs}
 use denote.Ref.{now}
 use lib.ListN.{length, length-set}
 use Rattle.xor.specs.Lists.{at}
-use Rattle.shares.proofs.WriteLaws.{over, over-none, over-more, over-all}
+use Rattle.xor.proofs.WriteLaws.{over, over-none, over-more, over-all}
 use Rattle.readings.proofs.CallsLaws.{all-below-at, listed-tab}
 use Rattle.readings.proofs.reading.pick_listed.Statement.{statement}
 use Rattle.readings.proofs.reading.pick_listed.Tie as tie

@@ -1,7 +1,7 @@
 -- `readings::reading::read_places` meets its contract. Assumes nothing.
 use mathlib.Core.Path.{_∙_}
 use borrow.Author.Needs.{needs}
-use Rattle.shares.proofs.WriteLaws.{length-part-first}
+use Rattle.xor.proofs.WriteLaws.{length-part-first}
 use Rattle.readings.proofs.reading.read_places.Statement.{statement}
 use Rattle.readings.proofs.reading.read_places.Tie as tie
 

@@ -4,6 +4,7 @@ use mathlib.Core.Path.{sym, ap, _∙_}
 use Prim.Native.Nat.{suc}
 use borrow.Author.Needs.{needs}
 use denote.Ref.{now}
+use Rattle.tape_words.specs.Words.{bytes-of}
 use Rattle.shares.specs.Strings.{parts, laid}
 use Rattle.cipher.specs.States.{adds}
 use Rattle.cipher.specs.Cipher.{round-keys}
@@ -32,7 +33,7 @@ returns c =
     let first = test .before .before .before in
     let start = first .before .before .before .before .before in
     let a = start .args in
-    let ts = now (a .tape) in
+    let ts = bytes-of (now (a .tape)) in
     let p = parts (suc (a .d)) 16 (now (a .s)) in
     let ks = parts (suc (a .d)) (a .m) (now (a .keys)) in
     let shape = shifted-shared (a .which) ts (state-shape (a .d) (now (a .s)) (start .pre .0 .long)) in
@@ -51,7 +52,7 @@ returns-2 c =
     let first = test .before .before .before in
     let start = first .before .before .before .before .before in
     let a = start .args in
-    let ts = now (a .tape) in
+    let ts = bytes-of (now (a .tape)) in
     let p = parts (suc (a .d)) 16 (now (a .s)) in
     let ks = parts (suc (a .d)) (a .m) (now (a .keys)) in
     let shape = shifted-shared (a .which) ts (state-shape (a .d) (now (a .s)) (start .pre .0 .long)) in

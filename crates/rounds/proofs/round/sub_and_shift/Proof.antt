@@ -4,6 +4,7 @@ use mathlib.Core.Path.{sym, ap, _∙_}
 use Prim.Native.Nat.{suc}
 use borrow.Author.Needs.{needs}
 use denote.Ref.{now}
+use Rattle.tape_words.specs.Words.{bytes-of}
 use Rattle.gf256.specs.declared.Direction.{Direction}
 use Rattle.shares.specs.Strings.{parts, laid}
 use Rattle.cipher.specs.Fips197.{shift-rows, inv-shift-rows}
@@ -44,7 +45,7 @@ returns c =
     let told = first .before .before in
     let start = told .before .before .before .before in
     let a = start .args in
-    let ts = now (a .tape) in
+    let ts = bytes-of (now (a .tape)) in
     let p = parts (suc (a .d)) 16 (now (a .s)) in
     let shape = subs-shared by-rows ts (state-shape (a .d) (now (a .s)) (start .pre .2)) in
     let boxed = first .sub-rows .ensures in
@@ -61,7 +62,7 @@ returns-2 c =
     let told = first .before .before in
     let start = told .before .before .before .before in
     let a = start .args in
-    let ts = now (a .tape) in
+    let ts = bytes-of (now (a .tape)) in
     let p = parts (suc (a .d)) 16 (now (a .s)) in
     let shape = map-shared inv-shift-rows (λ s e. inv-shift-rows-length s) (state-shape (a .d) (now (a .s)) (start .pre .2)) in
     let boxed = second .sub-rows2 .ensures in

@@ -3,7 +3,8 @@ use mathlib.Core.Path.{sym, _∙_}
 use native.Mathlib.Omega.{arith}
 use borrow.Author.Needs.{needs}
 use denote.Ref.{now}
-use Rattle.shares.proofs.WriteLaws.{front-all}
+use Rattle.tape_words.specs.Words.{bytes-of}
+use Rattle.xor.proofs.WriteLaws.{front-all}
 use Rattle.rounds.proofs.BlockLaws.{keys-length, rounds-need-of, with-made}
 use Rattle.rounds.proofs.rounds.rounds_core.Statement.{statement}
 use Rattle.rounds.proofs.rounds.rounds_core.Tie as tie
@@ -63,7 +64,8 @@ returns c =
     let k = number .key-number in
     let run = third .run-rounds .ensures in
     let copied = first .put .ensures ∙ front-all (now (a .input)) (now (a .output)) (fit .input ∙ sym (fit .output)) in
-    let made = with-made (a .which) (a .nk) (a .d) (k .result) (now (a .keys)) (now (a .input)) (now (a .tape)) _ _ _ (fit .keyed) (fit .input) in
+    let ts = bytes-of (now (a .tape)) in
+    let made = with-made (a .which) (a .nk) (a .d) (k .result) (now (a .keys)) (now (a .input)) ts _ _ _ (fit .keyed) (fit .input) in
     (run .0 ∙ rounds-need-of (a .nk) (a .d), made (k .ensures .0) (k .ensures .1) copied (second .add-key .ensures) (run .1))
 
 pub rounds-core-spec : {M : Type 1} → statement M

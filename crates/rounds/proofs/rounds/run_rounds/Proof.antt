@@ -1,20 +1,21 @@
 -- `rounds::rounds::run_rounds` meets its contract. Assumes nothing.
 use mathlib.Core.Path.{_≡_, refl, ap, _∙_}
-use Prim.Native.Nat.{suc, _≤_, _<_, _+_, _-_}
+use Prim.Native.Nat.{suc, _≤_, _<_, _+_, _*_, _-_}
 use native.Mathlib.Omega.{arith}
 use borrow.Author.Needs.{needs}
 use denote.Ref.{now}
 use Rattle.shares.specs.Strings.{parts, laid}
-use Rattle.shares.proofs.WriteLaws.{length-part-rest}
+use Rattle.tape_words.specs.Words.{bytes-of}
+use Rattle.tape_words.proofs.WordsLaws.{length-bytes, length-bytes-rest}
 use Rattle.cipher.proofs.DrawingLoops.{round-loop, rounds-whole, rounds-whole-need}
-use Rattle.buffers.proofs.BufferLaws.{Buffered, buffered-start, buffered-room, buffered-more, buffered-taken, buffered-done}
+use Rattle.buffers.proofs.BufferLaws.{Buffered, buffered-start, buffered-room, buffered-words, buffered-taken, buffered-done}
 use Rattle.rounds.proofs.BlockLaws.{rounds-bound, round-keeps, round-made}
 use Rattle.rounds.proofs.rounds.run_rounds.Statement.{statement}
 use Rattle.rounds.proofs.rounds.run_rounds.Tie as tie
 
 abbrev Inv-loop : tie.InvT-loop
 Inv-loop logs antilogs which nr d m keys tape s₀ at₀ i₀ i-end s at i =
-    (1 ≤ i) × (i ≤ suc nr) × (i-end ≡ nr + 1) × Buffered (round-loop which d nr (parts (suc d) m keys)) 1 d 16 tape s₀ i at s
+    (1 ≤ i) × (i ≤ suc nr) × (i-end ≡ nr + 1) × Buffered (round-loop which d nr (parts (suc d) m keys)) 1 d 16 (bytes-of tape) s₀ i (4 * at) s
 
 abbrev μ-loop : tie.MeasureT-loop
 μ-loop logs antilogs which nr d m keys tape s₀ at₀ i₀ i-end s at i = i-end - i
@@ -28,17 +29,26 @@ loop-holds c = (omega arith, omega arith, refl, buffered-start _ 1 _ _ _ _ (c .b
 key-number-requires : tie.Need-key-number-requires Inv-loop μ-loop
 key-number-requires c κs = search needs
 
+mul-make-round : tie.Need-mul-make-round Inv-loop μ-loop
+mul-make-round c =
+    let start = c .before .before .before .before .before .before in
+    let a = start .args in
+    let whole = rounds-whole-need (a .which) (a .d) (a .nr) (parts (suc (a .d)) (a .m) (now (a .keys))) in
+    omega (arith, whole, start .good, start .pre .0 .drawn, length-bytes (now (a .tape)))
+
 sub-make-round : tie.Need-sub-make-round Inv-loop μ-loop
 sub-make-round c =
     let start = c .before .before .before .before .before .before in
     let a = start .args in
-    omega (arith, rounds-whole-need (a .which) (a .d) (a .nr) (parts (suc (a .d)) (a .m) (now (a .keys))), start .pre .0 .drawn)
+    let whole = rounds-whole-need (a .which) (a .d) (a .nr) (parts (suc (a .d)) (a .m) (now (a .keys))) in
+    omega (arith, whole, start .pre .0 .drawn, length-bytes (now (a .tape)))
 
 part-make-round-start : tie.Need-part-make-round-start Inv-loop μ-loop
 part-make-round-start c =
     let start = c .before .before .before .before .before .before in
     let a = start .args in
-    omega (arith, rounds-whole-need (a .which) (a .d) (a .nr) (parts (suc (a .d)) (a .m) (now (a .keys))), start .pre .0 .drawn)
+    let whole = rounds-whole-need (a .which) (a .d) (a .nr) (parts (suc (a .d)) (a .m) (now (a .keys))) in
+    omega (arith, whole, start .pre .0 .drawn, length-bytes (now (a .tape)))
 
 part-make-round-end : tie.Need-part-make-round-end Inv-loop μ-loop
 part-make-round-end c = search needs
@@ -58,7 +68,7 @@ make-round-requires c κs =
         order = fit .order;
         round = omega (arith, fit .round, number .key-number .ensures .1);
         keyed = fit .keyed;
-        drawn = omega (arith, room, whole, fit .drawn, length-part-rest (now (a .tape)) (l .at));
+        drawn = omega (arith, room, whole, fit .drawn, length-bytes (now (a .tape)), length-bytes-rest (l .at) (now (a .tape)));
         long = l .inv .3 .long;
       },
       search needs,
@@ -98,7 +108,8 @@ loop-again c =
     let below : l .i < suc (a .nr) = omega arith in
     let keeps = round-keeps (a .which) (a .d) (a .m) (a .nr) (l .i) (now (a .keys)) (fit .round) (fit .keyed) below in
     let made = round-made (a .which) (a .d) (a .m) (a .nr) (l .i) (k .result) (now (a .keys)) _ (l .s) _ (k .ensures .0) (q .ensures .1) in
-    (omega arith, omega arith, l .inv .2, buffered-more (l .inv .3) (q .result) _ below keeps (q .ensures .0) made)
+    let drawn = buffered-words (now (a .tape)) (l .at) (l .inv .3) (q .result) _ below keeps (q .ensures .0) made in
+    (omega arith, omega arith, l .inv .2, drawn)
 
 same-length : tie.Need-same-length Inv-loop μ-loop
 same-length c = search needs
@@ -112,7 +123,8 @@ returns c =
     let ks = parts (suc (a .d)) (a .m) (now (a .keys)) in
     let e : l .i ≡ suc (a .nr) = omega arith in (
       buffered-taken (l .inv .3) e ∙ rounds-whole-need (a .which) (a .d) (a .nr) ks,
-      buffered-done (l .inv .3) e ∙ ap laid (rounds-whole (a .which) (a .d) (a .nr) ks (parts (suc (a .d)) 16 (now (a .s))) (now (a .tape))),
+      buffered-done (l .inv .3) e
+          ∙ ap laid (rounds-whole (a .which) (a .d) (a .nr) ks (parts (suc (a .d)) 16 (now (a .s))) (bytes-of (now (a .tape)))),
     )
 
 pub run-rounds-spec : {M : Type 1} → statement M
@@ -124,6 +136,7 @@ run-rounds-spec =
     add-i-end
     loop-holds
     key-number-requires
+    mul-make-round
     sub-make-round
     part-make-round-start
     part-make-round-end

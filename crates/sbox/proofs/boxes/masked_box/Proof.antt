@@ -10,7 +10,9 @@ use Rattle.gf256.specs.Tables.{lent}
 use Rattle.outcomes.specs.Outcome.{took}
 use Rattle.outcomes.proofs.OutcomeLaws.{settled-refused, settled-done}
 use Rattle.shares.proofs.CallsLaws.{byte-answered, byte-through}
-use Rattle.shares.proofs.WriteLaws.{front-all}
+use Rattle.xor.proofs.WriteLaws.{front-all}
+use Rattle.tape_words.specs.Words.{bytes-of}
+use Rattle.tape_words.proofs.WordsLaws.{words-reach}
 use Rattle.sbox.specs.Box.{box}
 use Rattle.sbox.specs.Calls.{Box-outcome}
 use Rattle.sbox.proofs.boxes.masked_box.Statement.{statement}
@@ -53,8 +55,8 @@ logs-requires c κs = search needs
 antilogs-requires : tie.Need-antilogs-requires
 antilogs-requires c κs = search needs
 
-box-core-requires : tie.Need-box-core-requires
-box-core-requires c κs =
+box-on-words-requires : tie.Need-box-on-words-requires
+box-on-words-requires c κs =
     let antilogs = c .before .before .before in
     let logs = antilogs .before in
     let put = logs .before .before .before in
@@ -65,8 +67,10 @@ box-core-requires c κs =
     (q .before .call-need .ensures) (q .byte-answer .ensures)
     in
     let h = byte-through _ (v .order) _ _ _ _ _ e (told .enum-told .given .1) in
-    let l = put .put .kept .1 .0 in
-    (record { order = h .order; long = omega (arith, h .output, l); drawn = h .drawn }, lent (logs .logs .ensures) (antilogs .antilogs .ensures))
+    let l = put .put .kept .1 .0 in (
+      record { order = h .order; long = omega (arith, h .output, l); drawn = words-reach _ (now (v .tape)) (h .drawn) },
+      lent (logs .logs .ensures) (antilogs .antilogs .ensures),
+    )
 
 same-length : tie.Need-same-length
 same-length c = search needs
@@ -85,8 +89,9 @@ returns-2 c =
     let h = byte-through (q .before .call-need .result) (v .order) (length (now (v .input))) (length (now (v .tape))) (length (now (v .output))) _
     _ (q .byte-answer .ensures) (told .enum-told .given .1) in
     let m = put .put .ensures ∙ front-all (now (v .input)) (now (v .output)) (h .input ∙ sym (h .output)) in
-    let p = core .box-core .ensures in
-    settled-done _ _ _ _ _ e _ _ _ (told .enum-told .given .1) (ap took (p .0)) (p .1 ∙ ap (λ (x : List ℕ). box (v .order) x (now (v .tape))) m)
+    let p = core .box-on-words .ensures in
+    settled-done _ _ _ _ _ e _ _ _ (told .enum-told .given .1) (ap took (p .0))
+    (p .1 ∙ ap (λ (x : List ℕ). box (v .order) x (bytes-of (now (v .tape)))) m)
 
 pub masked-box-spec : {M : Type 1} → statement M
 masked-box-spec =
@@ -100,6 +105,6 @@ masked-box-spec =
     put-requires
     logs-requires
     antilogs-requires
-    box-core-requires
+    box-on-words-requires
     same-length
     returns-2)

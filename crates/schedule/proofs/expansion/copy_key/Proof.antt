@@ -5,7 +5,7 @@ use native.Mathlib.Omega.{arith}
 use borrow.Author.Needs.{needs}
 use denote.Ref.{now}
 use lib.ListN.{length, take, drop}
-use Rattle.shares.specs.Writes.{front}
+use Rattle.xor.specs.Writes.{front}
 use Rattle.shares.proofs.StringsLaws.{part-fits}
 use Rattle.buffers.proofs.ShareLaws.{Done, done-none, done-more, done-all}
 use Rattle.schedule.proofs.KeyLaws.{with-share, with-share-length, key-copied}

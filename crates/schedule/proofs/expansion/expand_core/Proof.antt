@@ -4,6 +4,7 @@ use Prim.Native.Nat.{_+_, _*_}
 use native.Mathlib.Omega.{arith}
 use borrow.Author.Needs.{needs}
 use denote.Ref.{now}
+use Rattle.tape_words.specs.Words.{bytes-of}
 use Rattle.schedule.proofs.KeyLaws.{long-is, need-is, expanded-is}
 use Rattle.schedule.proofs.expansion.expand_core.Statement.{statement}
 use Rattle.schedule.proofs.expansion.expand_core.Tie as tie
@@ -56,7 +57,8 @@ returns c =
     let q = words .expand .ensures in
     let long = long-is (v .nk) (v .d) _ (start .pre .0 .keyed) in
     let total = 4 * (v .nk + 7) in
-    let made = expanded-is (v .nk) (v .d) total (now (v .key)) (now (v .tape)) _ _ refl (omega (arith, long)) (key .copy-key .ensures) (q .1) in
+    let ts = bytes-of (now (v .tape)) in
+    let made = expanded-is (v .nk) (v .d) total (now (v .key)) ts _ _ refl (omega (arith, long)) (key .copy-key .ensures) (q .1) in
     (q .0 ∙ need-is (v .nk) (v .d), made)
 
 pub expand-core-spec : {M : Type 1} → statement M

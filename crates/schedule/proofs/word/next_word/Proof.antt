@@ -2,6 +2,7 @@
 use native.Mathlib.Omega.{arith}
 use borrow.Author.Needs.{needs}
 use denote.Ref.{now}
+use Rattle.tape_words.specs.Words.{bytes-of}
 use Rattle.schedule.proofs.WordLaws.{word-is}
 use Rattle.schedule.proofs.word.next_word.Statement.{statement}
 use Rattle.schedule.proofs.word.next_word.Tie as tie
@@ -45,7 +46,7 @@ returns c =
     let first = second .before .before .before .before in
     let v = first .before .before .before .before .before .before .args in
     let made = second .make-temp .ensures in
-    let word = word-is (v .nk) (v .d) (v .m) (v .i) (now (v .keys)) (now (v .tape)) _ _ _ (first .fetch .ensures) (made .1) in
+    let word = word-is (v .nk) (v .d) (v .m) (v .i) (now (v .keys)) (bytes-of (now (v .tape))) _ _ _ (first .fetch .ensures) (made .1) in
     (made .0, word (third .store-all .ensures))
 
 pub next-word-spec : {M : Type 1} → statement M

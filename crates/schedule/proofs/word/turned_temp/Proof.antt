@@ -2,6 +2,7 @@
 use borrow.Author.Needs.{needs}
 use denote.Ref.{now}
 use lib.ListN.{length-set}
+use Rattle.tape_words.specs.Words.{bytes-of}
 use Rattle.schedule.proofs.WordLaws.{turned-is}
 use Rattle.schedule.proofs.word.turned_temp.Statement.{statement}
 use Rattle.schedule.proofs.word.turned_temp.Tie as tie
@@ -31,7 +32,7 @@ returns c =
     let start = boxed .before .before .before .before in
     let v = start .args in
     let word = boxed .sub-word .ensures in
-    let made = turned-is (v .d) (v .j) _ (now (v .tape)) (now (v .t)) _ _ (start .pre .0 .long) (word .1) (turned .rot-all .ensures) in
+    let made = turned-is (v .d) (v .j) _ (bytes-of (now (v .tape))) (now (v .t)) _ _ (start .pre .0 .long) (word .1) (turned .rot-all .ensures) in
     (word .0, made (c .rcon .ensures))
 
 pub turned-temp-spec : {M : Type 1} → statement M

@@ -7,8 +7,8 @@ use borrow.Author.Needs.{needs}
 use lib.ListN.{length, length-set}
 use Rattle.xor.specs.Lists.{at, tab}
 use Rattle.xor.proofs.ListsLaws.{tab-at}
-use Rattle.shares.specs.Writes.{front}
-use Rattle.shares.proofs.WriteLaws.{over, over-none, over-more, over-front}
+use Rattle.xor.specs.Writes.{front}
+use Rattle.xor.proofs.WriteLaws.{over, over-none, over-more, over-front}
 use Rattle.shares.proofs.bytes.put.Statement.{statement}
 use Rattle.shares.proofs.bytes.put.Tie as tie
 

@@ -8,7 +8,7 @@ use lib.Bits.{bitXor}
 use lib.ListN.{length, getD, length-set}
 use Rattle.xor.specs.Lists.{at}
 use Rattle.xor.proofs.StringLaws.{tab-xors}
-use Rattle.shares.proofs.WriteLaws.{over, over-none, over-more, over-all, over-at}
+use Rattle.xor.proofs.WriteLaws.{over, over-none, over-more, over-all, over-at}
 use Rattle.shares.proofs.bytes.xor_into.Statement.{statement}
 use Rattle.shares.proofs.bytes.xor_into.Tie as tie
 

@@ -8,10 +8,10 @@ use denote.Ref.{now}
 use lib.ListN.{length, take, drop, length-drop}
 use lib.Seq.{length-take-le}
 use Rattle.xor.specs.Sums.{xors}
-use Rattle.shares.specs.Writes.{front}
+use Rattle.xor.specs.Writes.{front}
 use Rattle.shares.specs.Strings.{joined-string, parts}
 use Rattle.shares.proofs.StringsLaws.{one-more, joined-first}
-use Rattle.shares.proofs.WriteLaws.{part-rest, part-first, front-all}
+use Rattle.xor.proofs.WriteLaws.{part-rest, part-first, front-all}
 use Rattle.shares.proofs.joining.join_core.Statement.{statement}
 use Rattle.shares.proofs.joining.join_core.Tie as tie
 

@@ -7,16 +7,20 @@ use borrow.Author.Needs.{needs}
 use denote.Ref.{now}
 use lib.ListN.{length}
 use Rattle.outcomes.specs.Outcome.{took}
+use Rattle.tape_words.specs.Words.{bytes-of, words-for}
 use Rattle.shares.specs.Calls.{Refresh-outcome}
 use Rattle.shares.specs.Refresh.{refreshed}
 use Rattle.outcomes.proofs.OutcomeLaws.{settled-refused, settled-done}
 use Rattle.shares.proofs.CallsLaws.{byte-answered, byte-through}
-use Rattle.shares.proofs.WriteLaws.{front-all}
+use Rattle.xor.proofs.WriteLaws.{front-all}
 use Rattle.shares.proofs.refreshing.refresh.Statement.{statement}
 use Rattle.shares.proofs.refreshing.refresh.Tie as tie
 
 refresh-need-requires : tie.Need-refresh-need-requires
 refresh-need-requires c κs = search needs
+
+words-for-requires : tie.Need-words-for-requires
+words-for-requires c κs = search needs
 
 byte-answer-requires : tie.Need-byte-answer-requires
 byte-answer-requires c κs = search needs
@@ -31,31 +35,33 @@ returns : tie.Need-returns
 unfolding Refresh-outcome
 returns c =
     let q = c .before .before in
-    let v = q .before .before .before .before .before .args in
+    let words = q .before .words-for .ensures ∙ ap words-for (q .before .before .refresh-need .ensures) in
+    let v = q .before .before .before .before .before .before .args in
     settled-refused _ _ _ _ _
     (byte-answered _ _ (v .order) (length (now (v .input))) (length (now (v .tape))) (length (now (v .output))) _
-    (λ e. q .before .refresh-need .ensures) (q .byte-answer .ensures))
+    (λ e. words) (q .byte-answer .ensures))
     _ (c .enum-told2 .given .1)
 
 put-requires : tie.Need-put-requires
 put-requires c κs =
     let told = c .before in
     let q = told .before .before in
-    let v = q .before .before .before .before .before .args in
-    let h = byte-through (q .before .refresh-need .result) (v .order) (length (now (v .input))) (length (now (v .tape))) (length (now (v .output))) _
+    let v = q .before .before .before .before .before .before .args in
+    let h = byte-through (q .before .words-for .result) (v .order) (length (now (v .input))) (length (now (v .tape))) (length (now (v .output))) _
     _ (q .byte-answer .ensures) (told .enum-told .given .1) in
     omega (arith, h .input, h .output)
 
-refresh-core-requires : tie.Need-refresh-core-requires
-refresh-core-requires c κs =
+refresh-on-words-requires : tie.Need-refresh-on-words-requires
+refresh-on-words-requires c κs =
     let put = c .before .before .before in
     let told = put .before .before in
     let q = told .before .before in
-    let v = q .before .before .before .before .before .args in
-    let h = byte-through (q .before .refresh-need .result) (v .order) (length (now (v .input))) (length (now (v .tape))) (length (now (v .output))) _
+    let words = q .before .words-for .ensures ∙ ap words-for (q .before .before .refresh-need .ensures) in
+    let v = q .before .before .before .before .before .before .args in
+    let h = byte-through (q .before .words-for .result) (v .order) (length (now (v .input))) (length (now (v .tape))) (length (now (v .output))) _
     _ (q .byte-answer .ensures) (told .enum-told .given .1) in
     let l = put .put .kept .1 .0 in
-    (h .order, omega (arith, h .output, l), rw (q .before .refresh-need .ensures) at (h .drawn))
+    (h .order, omega (arith, h .output, l), rw words at (h .drawn))
 
 same-length : tie.Need-same-length
 same-length c = search needs
@@ -67,26 +73,29 @@ returns-2 c =
     let put = core .before .before .before .before in
     let told = put .before .before in
     let q = told .before .before in
-    let v = q .before .before .before .before .before .args in
-    let h = byte-through (q .before .refresh-need .result) (v .order) (length (now (v .input))) (length (now (v .tape))) (length (now (v .output))) _
+    let words = q .before .words-for .ensures ∙ ap words-for (q .before .before .refresh-need .ensures) in
+    let v = q .before .before .before .before .before .before .args in
+    let h = byte-through (q .before .words-for .result) (v .order) (length (now (v .input))) (length (now (v .tape))) (length (now (v .output))) _
     _ (q .byte-answer .ensures) (told .enum-told .given .1) in
     let m = put .put .ensures ∙ front-all (now (v .input)) (now (v .output)) (h .input ∙ sym (h .output)) in
     settled-done _ _ _ _ _
     (byte-answered _ _ (v .order) (length (now (v .input))) (length (now (v .tape))) (length (now (v .output))) _
-    (λ e. q .before .refresh-need .ensures) (q .byte-answer .ensures))
+    (λ e. words) (q .byte-answer .ensures))
     _ _ _ (told .enum-told .given .1)
-    (ap took (core .refresh-core .ensures .0)) (core .refresh-core .ensures .1 ∙ ap (λ (x : List ℕ). refreshed (v .order) x (now (v .tape))) m)
+    (ap took (core .refresh-on-words .ensures .0))
+    (core .refresh-on-words .ensures .1 ∙ ap (λ (x : List ℕ). refreshed (v .order) x (bytes-of (now (v .tape)))) m)
 
 pub refresh-spec : {M : Type 1} → statement M
 refresh-spec =
     tie.close
     (tie.spec
     refresh-need-requires
+    words-for-requires
     byte-answer-requires
     enum-told
     enum-told-2
     returns
     put-requires
-    refresh-core-requires
+    refresh-on-words-requires
     same-length
     returns-2)

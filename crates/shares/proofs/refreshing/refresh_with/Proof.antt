@@ -6,9 +6,9 @@ use borrow.Author.Needs.{needs}
 use denote.Ref.{now}
 use lib.ListN.{length, set, length-set}
 use Rattle.xor.specs.Lists.{at, tab}
-use Rattle.shares.specs.Writes.{front}
+use Rattle.xor.specs.Writes.{front}
 use Rattle.shares.specs.Refresh.{refreshed}
-use Rattle.shares.proofs.WriteLaws.{over, over-none, over-more, over-first, over-front, at-front}
+use Rattle.xor.proofs.WriteLaws.{over, over-none, over-more, over-first, over-front, at-front}
 use Rattle.shares.proofs.RefreshLaws.{refresh-need-is, first-next, rest-none, rest-next, rest-end, first-start}
 use Rattle.shares.proofs.refreshing.refresh_with.Statement.{statement}
 use Rattle.shares.proofs.refreshing.refresh_with.Tie as tie

@@ -6,10 +6,10 @@ use borrow.Author.Needs.{needs}
 use denote.Ref.{now}
 use lib.ListN.{length}
 use Rattle.xor.specs.Sums.{xors}
-use Rattle.shares.specs.Writes.{front}
+use Rattle.xor.specs.Writes.{front}
 use Rattle.shares.specs.Strings.{joined-string, parts}
 use Rattle.shares.proofs.StringsLaws.{length-masked}
-use Rattle.shares.proofs.WriteLaws.{front-first, front-taken}
+use Rattle.xor.proofs.WriteLaws.{front-first, front-taken}
 use Rattle.shares.proofs.splitting.first_share.Statement.{statement}
 use Rattle.shares.proofs.splitting.first_share.Tie as tie
 

@@ -1,5 +1,5 @@
 -- `shares::splitting::split_answer` meets its contract. Assumes nothing.
-use mathlib.Core.Path.{ap, sym, _∙_}
+use mathlib.Core.Path.{refl, ap, sym, _∙_}
 use Prim.Native.Nat.{ℕ, _+_, _*_, _≤_}
 use native.Mathlib.Nat.{mul-le-mul}
 use native.Mathlib.Numerals.{add-one}
@@ -27,7 +27,7 @@ returns-2 c =
     let l = c .before in
     let o = l .before in
     let a = o .before .before .args in
-    split-answered _ (a .order) (a .input) (a .tape) (a .output) _ (l .share-length .ensures)
+    split-answered _ _ (a .order) (a .input) (a .tape) (a .output) _ (l .share-length .ensures) refl
     (answered-next _ _ _ _ (sym (o .before .served .ensures) ∙ not-false _ (o .if1 .left))
     (answered-here _ _ _ _ (le-ltb 0 (l .share-length .result) (omega (arith, c .if2 .taken)))))
 
@@ -53,13 +53,13 @@ returns-3 c =
     let l = i .before in
     let o = l .before in
     let a = o .before .before .args in
-    split-answered _ (a .order) (a .input) (a .tape) (a .output) _ (l .share-length .ensures)
+    split-answered _ _ (a .order) (a .input) (a .tape) (a .output) _ (l .share-length .ensures) refl
     (answered-next _ _ _ _ (sym (o .before .served .ensures) ∙ not-false _ (o .if1 .left))
     (answered-next _ _ _ _ (lt-ltb 0 (l .share-length .result) (omega (arith, i .if2 .left)))
     (answered-here _ _ _ _ (ne-eqb _ _ (λ e. c .if3 .taken (e ∙ ap (λ (n : ℕ). n * l .share-length .result) (sym (add-one (a .order)))))))))
 
-mul-if4 : tie.Need-mul-if4
-mul-if4 c =
+mul-words-for : tie.Need-mul-words-for
+mul-words-for c =
     let l = c .before .before in
     let o = l .before in
     let a = o .before .before .args in
@@ -67,36 +67,32 @@ mul-if4 c =
     let s : l .share-length .result ≤ 32 = rw (l .share-length .ensures) (share-length-le 1 (a .input)) in
     omega (arith, mul-le-mul (b .1) s)
 
+words-for-requires : tie.Need-words-for-requires
+words-for-requires c κs = search needs
+
 returns-4 : tie.Need-returns-4
 returns-4 c =
-    let r = c .before in
+    let w = c .before in
+    let r = w .before in
     let i = r .before in
     let l = i .before in
     let o = l .before in
     let a = o .before .before .args in
-    split-answered _ (a .order) (a .input) (a .tape) (a .output) _ (l .share-length .ensures)
+    split-answered _ _ (a .order) (a .input) (a .tape) (a .output) _ (l .share-length .ensures) (w .words-for .ensures)
     (answered-next _ _ _ _ (sym (o .before .served .ensures) ∙ not-false _ (o .if1 .left))
     (answered-next _ _ _ _ (lt-ltb 0 (l .share-length .result) (omega (arith, i .if2 .left)))
     (answered-next _ _ _ _ (eq-eqb _ _ (r .if3 .left ∙ ap (λ (n : ℕ). n * l .share-length .result) (add-one (a .order))))
     (answered-here _ _ _ _ (lt-reaches _ _ (c .if4 .taken))))))
 
-mul-t11 : tie.Need-mul-t11
-mul-t11 c =
-    let l = c .before .before .before in
-    let o = l .before in
-    let a = o .before .before .args in
-    let b = served-bounds (a .order) (sym (o .before .served .ensures) ∙ not-false _ (o .if1 .left)) in
-    let s : l .share-length .result ≤ 32 = rw (l .share-length .ensures) (share-length-le 1 (a .input)) in
-    omega (arith, mul-le-mul (b .1) s)
-
 returns-5 : tie.Need-returns-5
 returns-5 c =
-    let r = c .before in
+    let w = c .before in
+    let r = w .before in
     let i = r .before in
     let l = i .before in
     let o = l .before in
     let a = o .before .before .args in
-    split-answered _ (a .order) (a .input) (a .tape) (a .output) _ (l .share-length .ensures)
+    split-answered _ _ (a .order) (a .input) (a .tape) (a .output) _ (l .share-length .ensures) (w .words-for .ensures)
     (answered-next _ _ _ _ (sym (o .before .served .ensures) ∙ not-false _ (o .if1 .left))
     (answered-next _ _ _ _ (lt-ltb 0 (l .share-length .result) (omega (arith, i .if2 .left)))
     (answered-next _ _ _ _ (eq-eqb _ _ (r .if3 .left ∙ ap (λ (n : ℕ). n * l .share-length .result) (add-one (a .order))))
@@ -113,7 +109,7 @@ split-answer-spec =
     add-if3
     mul-if3
     returns-3
-    mul-if4
+    mul-words-for
+    words-for-requires
     returns-4
-    mul-t11
     returns-5)

@@ -8,8 +8,8 @@ use denote.Ref.{now}
 use lib.ListN.{length, take, drop, length-append}
 use lib.Seq.{length-take-le}
 use Rattle.xor.specs.Sums.{xors}
-use Rattle.shares.proofs.WriteLaws.{length-part-first, length-part-rest, part-first, front-part, front-all}
-use Rattle.shares.specs.Writes.{front}
+use Rattle.xor.proofs.WriteLaws.{length-part-first, length-part-rest, part-first, front-part, front-all}
+use Rattle.xor.specs.Writes.{front}
 use Rattle.shares.specs.Strings.{joined-string, parts}
 use Rattle.shares.proofs.StringsLaws.{one-more, length-masked, laid-split}
 use Rattle.shares.proofs.splitting.split_core.Statement.{statement}

@@ -3,9 +3,12 @@ use native.Mathlib.Omega.{arith}
 use borrow.Author.Needs.{needs}
 use denote.Ref.{now}
 use Rattle.shares.specs.Calls.{unused}
-use Rattle.shares.proofs.WriteLaws.{part-rest, part-past}
+use Rattle.xor.proofs.WriteLaws.{part-rest, part-past}
 use Rattle.shares.proofs.tape.unused_tape.Statement.{statement}
 use Rattle.shares.proofs.tape.unused_tape.Tie as tie
+
+mul-result : tie.Need-mul-result
+mul-result c = search needs
 
 sub-result : tie.Need-sub-result
 sub-result c = search needs
@@ -15,6 +18,9 @@ part-result-start c = search needs
 
 part-result-end : tie.Need-part-result-end
 part-result-end c = search needs
+
+mul-result-2 : tie.Need-mul-result-2
+mul-result-2 c = search needs
 
 sub-result-2 : tie.Need-sub-result-2
 sub-result-2 c = search needs
@@ -41,9 +47,11 @@ pub unused-tape-spec : {M : Type 1} → statement M
 unused-tape-spec =
     tie.close
     (tie.spec
+    mul-result
     sub-result
     part-result-start
     part-result-end
+    mul-result-2
     sub-result-2
     part-result-start-2
     part-result-end-2

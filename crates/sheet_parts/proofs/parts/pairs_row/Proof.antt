@@ -5,7 +5,7 @@ use Prim.Native.Nat.{ℕ, _≤_}
 use native.Mathlib.Omega.{arith}
 use borrow.Author.Needs.{needs}
 use denote.Ref.{now}
-use Rattle.shares.specs.Writes.{front}
+use Rattle.xor.specs.Writes.{front}
 use Rattle.sheet_parts.proofs.SheetParts.{five-rows-right}
 use Rattle.sheet_parts.proofs.parts.pairs_row.Statement.{statement}
 use Rattle.sheet_parts.proofs.parts.pairs_row.Tie as tie

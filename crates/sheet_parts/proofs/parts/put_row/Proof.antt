@@ -6,8 +6,8 @@ use borrow.Author.Needs.{needs}
 use denote.Ref.{now}
 use lib.ListN.{length}
 use Rattle.xor.specs.Lists.{at, runs}
-use Rattle.shares.specs.Writes.{front}
-use Rattle.shares.proofs.WriteLaws.{front-part}
+use Rattle.xor.specs.Writes.{front}
+use Rattle.xor.proofs.WriteLaws.{front-part}
 use Rattle.sheet_parts.specs.Parts.{five-rows}
 use Rattle.sheet_parts.proofs.SheetParts.{length-five-rows, five-rows-more}
 use Rattle.sheet_parts.proofs.parts.put_row.Statement.{statement}

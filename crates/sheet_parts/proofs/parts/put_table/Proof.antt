@@ -9,8 +9,8 @@ use borrow.Author.Needs.{needs}
 use denote.Ref.{now}
 use lib.ListN.{length}
 use Rattle.xor.specs.Lists.{runs}
-use Rattle.shares.specs.Writes.{front}
-use Rattle.shares.proofs.WriteLaws.{front-part, length-part-rest}
+use Rattle.xor.specs.Writes.{front}
+use Rattle.xor.proofs.WriteLaws.{front-part, length-part-rest}
 use Rattle.sheet_parts.specs.Parts.{table-rows}
 use Rattle.sheet_parts.proofs.PartsLaws.{table-part, length-table-part, length-table-rows, table-rows-more}
 use Rattle.sheet_parts.proofs.SheetParts.{rows-room}

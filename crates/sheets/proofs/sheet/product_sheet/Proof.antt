@@ -6,6 +6,7 @@ use lib.ListN.{length}
 use Rattle.gf256.specs.Tables.{lent}
 use Rattle.outcomes.specs.Outcome.{took}
 use Rattle.outcomes.proofs.OutcomeLaws.{settled-refused, settled-done}
+use Rattle.tape_words.proofs.WordsLaws.{words-reach}
 use Rattle.masking.proofs.CallsLaws.{factors-answered, factors-through}
 use Rattle.sheets.specs.Calls.{Sheet-outcome}
 use Rattle.sheets.proofs.sheet.product_sheet.Statement.{statement}
@@ -39,8 +40,8 @@ logs-requires c κs = search needs
 antilogs-requires : tie.Need-antilogs-requires
 antilogs-requires c κs = search needs
 
-sheet-core-requires : tie.Need-sheet-core-requires
-sheet-core-requires c κs =
+sheet-on-words-requires : tie.Need-sheet-on-words-requires
+sheet-on-words-requires c κs =
     let antilogs = c .before .before .before in
     let logs = antilogs .before in
     let told = logs .before in
@@ -50,7 +51,7 @@ sheet-core-requires c κs =
     (q .before .sheet-size .ensures .0) (q .factors-answer .ensures)
     in
     let h = factors-through _ (v .order) _ _ _ _ _ _ _ e (told .enum-told .given .1) in (
-      record { order = h .order; left = h .left; right = h .right; drawn = h .drawn },
+      record { order = h .order; left = h .left; right = h .right; drawn = words-reach _ (now (v .tape)) (h .drawn) },
       h .output,
       lent (logs .logs .ensures) (antilogs .antilogs .ensures),
     )
@@ -68,7 +69,7 @@ returns-2 c =
     let e = factors-answered _ _ (v .order) (length (now (v .left))) (length (now (v .right))) (length (now (v .tape))) (length (now (v .output))) _ _
     (q .before .sheet-size .ensures .0) (q .factors-answer .ensures)
     in
-    settled-done _ _ _ _ _ e _ _ _ (told .enum-told .given .1) (ap took (core .sheet-core .ensures .0)) (core .sheet-core .ensures .1)
+    settled-done _ _ _ _ _ e _ _ _ (told .enum-told .given .1) (ap took (core .sheet-on-words .ensures .0)) (core .sheet-on-words .ensures .1)
 
 pub product-sheet-spec : {M : Type 1} → statement M
 product-sheet-spec =
@@ -81,6 +82,6 @@ product-sheet-spec =
     returns
     logs-requires
     antilogs-requires
-    sheet-core-requires
+    sheet-on-words-requires
     same-length
     returns-2)

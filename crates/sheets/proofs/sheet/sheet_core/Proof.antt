@@ -3,7 +3,7 @@ use mathlib.Core.Path.{refl, _∙_}
 use native.Mathlib.Numerals.{add-one}
 use native.Mathlib.Omega.{arith}
 use borrow.Author.Needs.{needs}
-use Rattle.shares.proofs.WriteLaws.{length-part-first}
+use Rattle.xor.proofs.WriteLaws.{length-part-first}
 use Rattle.sheets.proofs.sheet.sheet_core.Statement.{statement}
 use Rattle.sheets.proofs.sheet.sheet_core.Tie as tie
 

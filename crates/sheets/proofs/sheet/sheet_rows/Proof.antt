@@ -10,8 +10,8 @@ use lib.ListN.{length, drop}
 use Rattle.xor.specs.Lists.{runs}
 use Rattle.xor.specs.Pairs.{before-row}
 use Rattle.isw.specs.Place.{product-need}
-use Rattle.shares.specs.Writes.{front}
-use Rattle.shares.proofs.WriteLaws.{part-rest}
+use Rattle.xor.specs.Writes.{front}
+use Rattle.xor.proofs.WriteLaws.{part-rest}
 use Rattle.sheet_parts.specs.Parts.{pairs-before}
 use Rattle.masking.proofs.TermsLaws.{product-need-last, row-counts, row-fits, row-room}
 use Rattle.masking.proofs.SumsLaws.{length-starts}

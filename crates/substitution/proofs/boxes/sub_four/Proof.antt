@@ -1,127 +1,95 @@
 -- `substitution::boxes::sub_four` meets its contract. Assumes nothing.
-use mathlib.Core.Path.{_≡_}
-use Prim.Native.Nat.{_+_, _*_, _≤_, _-_}
+use mathlib.Core.Path.{_≡_, sym, ap, _∙_}
+use Prim.Native.Nat.{ℕ, suc, _*_}
 use native.Mathlib.Omega.{arith}
 use borrow.Author.Needs.{needs}
 use denote.Ref.{now}
-use Rattle.shares.proofs.WriteLaws.{length-part-rest}
-use Rattle.cipher.proofs.CipherLaws.{sub-at-shared}
-use Rattle.buffers.proofs.BufferLaws.{Buffered, buffered-start, buffered-room, buffered-more, buffered-taken, buffered-done}
-use Rattle.substitution.proofs.SubLaws.{spaced-within, spaced-count, four-boxes}
+use Rattle.tape_words.proofs.WordsLaws.{reach-words}
+use Rattle.tape_words.proofs.FrontLaws.{unpack-fits, made-on-words}
+use Rattle.shares.specs.Strings.{parts, laid}
+use Rattle.sbox.specs.Box.{box-need}
+use Rattle.sbox.proofs.BoxLaws.{box-need-bound}
+use Rattle.cipher.specs.Cipher.{subs-of, subs-need}
+use Rattle.cipher.proofs.SurplusLaws.{subs-of-surplus}
+use Rattle.substitution.specs.Boxes.{spaced}
+use Rattle.substitution.proofs.SubLaws.{spaced-need}
 use Rattle.substitution.proofs.boxes.sub_four.Statement.{statement}
 use Rattle.substitution.proofs.boxes.sub_four.Tie as tie
 
-abbrev Inv-loop : tie.InvT-loop
-Inv-loop logs antilogs which d l first stride tape s₀ at₀ n m₀ s at m =
-    (n ≡ 4) × (m ≤ 4) × Buffered (four-boxes which d first stride) 0 d l tape s₀ m at s
+box-need-requires : tie.Need-box-need-requires
+box-need-requires c κs = search needs
 
-abbrev μ-loop : tie.MeasureT-loop
-μ-loop logs antilogs which d l first stride tape s₀ at₀ n m₀ s at m = 4 - m
+mul-unpack : tie.Need-mul-unpack
+mul-unpack c =
+    let start = c .before .before .before in
+    omega (arith, c .box-need .ensures, box-need-bound (start .args .d) (start .pre .0 .order))
 
-div-n : tie.Need-div-n Inv-loop μ-loop
-div-n c = search needs
+slice-aggregate-unpack : tie.Need-slice-aggregate-unpack
+slice-aggregate-unpack c = search needs
 
-loop-holds : tie.Need-loop-holds Inv-loop μ-loop
-loop-holds c =
-    let start = c .before .before in
-    let fits = start .pre .0 in
-    let n = spaced-count (start .args .first) (start .args .stride) (start .args .l) (fits .quarter) (fits .place) in
-    (n, omega arith, buffered-start _ 0 _ _ _ _ (fits .long))
+-- four S-boxes' bytes, as the code works them out
+need-is : (d first stride n : ℕ) → n ≡ box-need d → 4 * n ≡ subs-need d (spaced first stride)
+need-is d first stride n e = ap (_*_ 4) e ∙ sym (spaced-need d first stride)
 
-mul-k : tie.Need-mul-k Inv-loop μ-loop
-mul-k c =
-    let a = c .before .before .before .before .args in
-    omega (arith, spaced-within (a .first) (a .stride) (c .before .loop .m) (a .l) (omega arith) (omega arith) (omega arith))
-
-add-k : tie.Need-add-k Inv-loop μ-loop
-add-k c =
-    let a = c .before .before .before .before .args in
-    omega (arith, spaced-within (a .first) (a .stride) (c .before .loop .m) (a .l) (omega arith) (omega arith) (omega arith))
-
-sub-sub-place : tie.Need-sub-sub-place Inv-loop μ-loop
-unfolding four-boxes
-sub-sub-place c = search needs
-
-part-sub-place-start : tie.Need-part-sub-place-start Inv-loop μ-loop
-unfolding four-boxes
-part-sub-place-start c = search needs
-
-part-sub-place-end : tie.Need-part-sub-place-end Inv-loop μ-loop
-part-sub-place-end c = search needs
-
-sub-place-requires : tie.Need-sub-place-requires Inv-loop μ-loop
-unfolding four-boxes
-sub-place-requires c κs =
-    let loop = c .before .before .before in
-    let start = loop .before .before .before in
+unpack-requires : tie.Need-unpack-requires
+unpack-requires c κs =
+    let start = c .before .before .before .before in
     let a = start .args in
-    let l = loop .loop in
-    let room = buffered-room (l .inv .2) (omega arith) in (
+    let fit = start .pre .0 in
+    let need = need-is (a .d) (a .first) (a .stride) _ (c .before .box-need .ensures) in
+    let bound = box-need-bound (a .d) (fit .order) in
+    unpack-fits _ _ 160 (now (a .tape)) need (reach-words _ (now (a .tape)) (fit .drawn))
+    (omega (arith, bound, spaced-need (a .d) (a .first) (a .stride)))
+
+slice-aggregate-sub-spaced : tie.Need-slice-aggregate-sub-spaced
+slice-aggregate-sub-spaced c = search needs
+
+sub-spaced-requires : tie.Need-sub-spaced-requires
+sub-spaced-requires c κs =
+    let start = c .before .before .before .before .before .before .before .before in
+    let a = start .args in
+    let fit = start .pre .0 in
+    let bound = box-need-bound (a .d) (fit .order) in (
       record {
-        order = start .pre .0 .order;
-        place = spaced-within (a .first) (a .stride) (l .m) (a .l) (omega arith) (omega arith) (omega arith);
-        long = l .inv .2 .long;
-        drawn = omega (arith, room, length-part-rest (now (a .tape)) (l .at));
+        order = fit .order;
+        quarter = fit .quarter;
+        place = fit .place;
+        small = fit .small;
+        long = fit .long;
+        drawn = omega (arith, bound, spaced-need (a .d) (a .first) (a .stride));
       },
-      search needs,
+      start .pre .1,
     )
 
-add-at : tie.Need-add-at Inv-loop μ-loop
-unfolding four-boxes
-add-at c =
-    let call = c .before .before in
-    let loop = call .before .before .before .before in
-    let start = loop .before .before .before in
-    let room = buffered-room (loop .loop .inv .2) (omega arith) in
-    omega (arith, call .sub-place .ensures .0, room, start .good, start .pre .0 .drawn)
-
-add-m : tie.Need-add-m Inv-loop μ-loop
-add-m c = search needs
-
-loop-less : tie.Need-loop-less Inv-loop μ-loop
-loop-less c = search needs
-
-loop-again : tie.Need-loop-again Inv-loop μ-loop
-unfolding four-boxes
-loop-again c =
-    let call = c .before .before in
-    let loop = call .before .before .before .before in
-    let a = loop .before .before .before .args in
-    let l = loop .loop in
-    let p = call .sub-place in
-    let k = a .first + l .m * a .stride in (
-      l .inv .0,
-      omega arith,
-      buffered-more (l .inv .2) (p .result) _ (omega arith) (λ ss ts. sub-at-shared (a .which) k ts) (p .ensures .0) (p .ensures .1),
-    )
-
-same-length : tie.Need-same-length Inv-loop μ-loop
+same-length : tie.Need-same-length
 same-length c = search needs
 
-returns : tie.Need-returns Inv-loop μ-loop
-unfolding four-boxes
+returns : tie.Need-returns
 returns c =
-    let l = c .before .loop in
-    let e : l .m ≡ 4 = omega arith in
-    (buffered-taken (l .inv .2) e, buffered-done (l .inv .2) e)
+    let core = c .before .before in
+    let unpacked = core .before .before .before .before in
+    let boxes = unpacked .before .before in
+    let start = boxes .before .before .before in
+    let a = start .args in
+    let ks = spaced (a .first) (a .stride) in
+    let ss = parts (suc (a .d)) (a .l) (now (a .s)) in
+    let need = need-is (a .d) (a .first) (a .stride) _ (boxes .box-need .ensures) in
+    let words = reach-words _ (now (a .tape)) (start .pre .0 .drawn) in
+    let made = made-on-words (λ ts. laid (subs-of (a .which) (a .d) ks ss ts)) (subs-need (a .d) ks)
+    (λ ts us h. ap laid (subs-of-surplus (a .which) (a .d) ks ss ts us h)) in (
+      omega (arith, core .sub-spaced .ensures .0, spaced-need (a .d) (a .first) (a .stride)),
+      made _ (now (a .tape)) _ _ _ need words (unpacked .unpack .ensures) (core .sub-spaced .ensures .1),
+    )
 
 pub sub-four-spec : {M : Type 1} → statement M
 sub-four-spec =
     tie.close
     (tie.spec
-    Inv-loop
-    μ-loop
-    div-n
-    loop-holds
-    mul-k
-    add-k
-    sub-sub-place
-    part-sub-place-start
-    part-sub-place-end
-    sub-place-requires
-    add-at
-    add-m
-    loop-less
-    loop-again
+    box-need-requires
+    mul-unpack
+    slice-aggregate-unpack
+    unpack-requires
+    slice-aggregate-sub-spaced
+    sub-spaced-requires
     same-length
     returns)

@@ -5,7 +5,7 @@ use native.Mathlib.Omega.{arith}
 use borrow.Author.Needs.{needs}
 use lib.ListN.{length, length-set}
 use Rattle.xor.specs.Lists.{at}
-use Rattle.shares.proofs.WriteLaws.{over, over-none, over-more}
+use Rattle.xor.proofs.WriteLaws.{over, over-none, over-more}
 use Rattle.buffers.proofs.PartLaws.{place-lt, gathered}
 use Rattle.substitution.proofs.bytes.gather.Statement.{statement}
 use Rattle.substitution.proofs.bytes.gather.Tie as tie

@@ -1,0 +1,34 @@
+-- Demand 3 for bytes on a tape of 32-bit words: d places of a masked product of order d say nothing about its factors (security against d probes).
+-- Document 01, "Places in one product", decides, and that whole words are free, document 02, wish 6. Assumes nothing: these are definitions.
+use mathlib.Core.Path.{_≡_}
+use mathlib.Core.Bool.{Bool}
+use mathlib.Core.List.{List}
+use Prim.Native.Nat.{ℕ, _+_, _^_, _≤_, _<_}
+use lib.ListN.{length, take, drop}
+use Rattle.xor.specs.Lists.{Below}
+use Rattle.gf256.specs.Field.{times}
+use Rattle.isw.specs.Place.{sheet, listed, place-count, product-need}
+use Rattle.isw.specs.Hiding.{how-many, sums, factor, same}
+use Rattle.tape_words.specs.Words.{bytes-of, words-for}
+
+-- A choice is 2d masks, d of them for a and then d for b, each any byte, and the words of the tape, each any number of 32 bits; none is tied to
+-- another. What the product leaves of its last word, and words behind it, are as free as what it draws.
+
+-- how many choices pass a test, on a tape of n words: each list of masks comes once, and with each of them each list of words once
+unfoldable pub choices : (d n : ℕ) (test : (masks words : List ℕ) → Bool) → ℕ
+choices d n test = sums 256 (d + d) (λ ms. how-many (2 ^ 32) n (test ms))
+
+-- the sheet that a choice makes of the factors x and y
+unfoldable pub sheet-chosen : (d x y : ℕ) (masks words : List ℕ) → List ℕ
+sheet-chosen d x y ms ws = sheet times d (factor x (take d ms)) (factor y (drop d ms)) (bytes-of ws)
+
+-- how many choices put just the reading's values at the listed places
+unfoldable pub word-readings : (d n x y : ℕ) (list reading : List ℕ) → ℕ
+word-readings d n x y ps rs = choices d n (λ ms ws. same (listed (sheet-chosen d x y ms ws) ps) rs)
+
+-- THE HIDING RULE: at every order d, on every tape that has the words of a product, for every list of at most d places, every reading and any two
+-- pairs of factors, equally many choices give the reading
+unfoldable pub Words-hide : Type 0
+Words-hide =
+    (d n : ℕ) (list reading : List ℕ) (x y v z : ℕ) → words-for (product-need d) ≤ n → length list ≤ d → Below (place-count d) list
+    → x < 256 → y < 256 → v < 256 → z < 256 → word-readings d n x y list reading ≡ word-readings d n v z list reading

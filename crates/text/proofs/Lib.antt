@@ -1,0 +1,3 @@
+pub mod FillLaws
+pub mod LengthLaws
+pub mod PackingLaws

@@ -1,0 +1,36 @@
+#include "needs.h"
+
+#include "key_sizes.h"
+#include "word_tape.h"
+
+size_t need_bytes(enum routine routine, size_t d, size_t l)
+{
+	size_t sbox = 2 * d * d + 4 * d;
+
+	switch (routine) {
+	case SPLIT:
+		return d * l;
+	case REFRESH:
+		return d;
+	case PRODUCT:
+	case SHEET:
+	case READ:
+		return d * (d + 1) / 2;
+	case SBOX:
+		return sbox;
+	case ENCRYPT:
+	case DECRYPT:
+		return all_sboxes[l / 8 - 2] * sbox;
+	case PREPARE:
+		return key_sboxes[l / 8 - 2] * sbox;
+	case ENCRYPT_PREPARED:
+		return round_sboxes[l / 8 - 2] * sbox;
+	default:
+		return 0;
+	}
+}
+
+size_t need_words(enum routine routine, size_t d, size_t l)
+{
+	return tape_words(need_bytes(routine, d, l));
+}
