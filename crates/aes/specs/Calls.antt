@@ -36,7 +36,8 @@ Prepare-outcome d k ts o =
 unfoldable pub Encrypt-prepared-outcome : (order : ℕ) (prepared input tape output : List ℕ) → Outcome
 Encrypt-prepared-outcome d ks x ts o =
     settled (Prepared-tests d (length ks) (length x) (length ts) (length o))
-    (took (words-for (encrypted-with-need (prepared-words d (length ks)) d))) o (encrypted-with-laid (prepared-words d (length ks)) d ks x (bytes-of ts))
+    (took (words-for (encrypted-with-need (prepared-words d (length ks)) d))) o
+    (encrypted-with-laid (prepared-words d (length ks)) d ks x (bytes-of ts))
 
 -- the outcome of a call, counted together with n words drawn before it
 abbrev pub after : (n : ℕ) → Outcome → Outcome

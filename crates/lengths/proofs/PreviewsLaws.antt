@@ -76,8 +76,9 @@ pub preparation-through : (d k t o : ℕ) (a : Answer) (n c : Count) → a ≡ a
     → Preparation-through d k t o
 preparation-through d k t o a n c e f = preparation-passed d k t o (answered-taken _ n c (sym e ∙ f) .0)
 
--- ---- the answer to what was worked out for the words that were found
+-- ---- the answer to what was worked out for the key that was found: b bytes, w words
 
-pub block-answered : (n nk d x t o : ℕ) (need : (nk : ℕ) → ℕ) (a : Answer) → n ≡ nk
-    → a ≡ answered (Block-tests (need n) d x t o) (took (need n)) → a ≡ answered (Block-tests (need nk) d x t o) (took (need nk))
-block-answered n nk d x t o need a e f = f ∙ ap (λ (m : ℕ). answered (Block-tests (need m) d x t o) (took (need m))) e
+pub block-answered : (n nk d x t o b w : ℕ) (need : (nk : ℕ) → ℕ) (a : Answer) → n ≡ nk → b ≡ need n → w ≡ words-for b
+    → a ≡ answered (Block-tests w d x t o) (took w) → a ≡ answered (Block-tests (words-for (need nk)) d x t o) (took (words-for (need nk)))
+block-answered n nk d x t o b w need a e g h f =
+    f ∙ ap (λ (m : ℕ). answered (Block-tests m d x t o) (took m)) (h ∙ ap words-for (g ∙ ap need e))

@@ -1,18 +1,26 @@
--- What the tests of a call on two factors say, and what is known where they let it through. Assumes nothing.
+-- What the tests of a call on two factors say, what is known where they let it through, and what it unpacks of its tape. Assumes nothing.
 use mathlib.Core.Path.{_≡_, refl, sym, ap, _∙_}
 use mathlib.Core.Bool.{Bool, true, false}
-use Prim.Native.Nat.{ℕ, suc, _≤_}
+use mathlib.Core.List.{List, _++_}
+use Prim.Native.Nat.{ℕ, suc, _*_, _≤_}
+use native.Mathlib.Omega.{arith}
 use borrow.Author.Tests.{eqb-true}
 use lib.Dec.{eqb}
+use lib.ListN.{length, take}
+use Rattle.xor.specs.Writes.{front}
 use Rattle.xor.proofs.Tests.{and-true}
 use Rattle.isw.specs.Place.{product-need}
+use Rattle.isw.proofs.OrderLaws.{product-need-bound}
 use Rattle.outcomes.specs.declared.Refusal.the-variants.{Order}
 use Rattle.outcomes.specs.declared.Count.{Count}
 use Rattle.outcomes.specs.declared.Answer.{Answer}
 use Rattle.outcomes.specs.declared.Answer.the-variants.{Taken}
 use Rattle.outcomes.specs.Outcome.{test, answered, served, reaches}
 use Rattle.outcomes.proofs.OutcomeLaws.{Passed, _and_, answered-here, answered-taken, served-bounds, reaches-le}
-use Rattle.tape_words.specs.Words.{words-for}
+use Rattle.tape_words.specs.Words.{bytes-of, words-for}
+use Rattle.tape_words.proofs.WordsLaws.{reach-words}
+use Rattle.tape_words.proofs.FrontLaws.{unpack-fits, made-on-words}
+use Rattle.masking.specs.Fits.{Factors-fit}
 use Rattle.masking.specs.Calls.{two-fit, Factor-tests}
 
 pub two-fit-lengths : (d a b : ℕ) → two-fit d a b ≡ true → (a ≡ suc d) × (b ≡ suc d)
@@ -46,3 +54,21 @@ factors-passed room d a b t o (u and i and r and n and p) =
 pub factors-through : (room d a b t o : ℕ) (q : Answer) (k c : Count) → q ≡ answered (Factor-tests room d a b t o) k → q ≡ Taken c
     → Factors-through room d a b t o
 factors-through room d a b t o q k c e f = factors-passed room d a b t o (answered-taken _ k c (sym e ∙ f) .0)
+
+-- ---- a call on two factors, on a tape of words: what is unpacked for it
+
+module _ (d n : ℕ) (a b ws : List ℕ) (fit : Factors-fit d a b (bytes-of ws)) (need : n ≡ product-need d) where
+  words-there : words-for (product-need d) ≤ length ws
+  words-there = reach-words (product-need d) ws (fit .drawn)
+
+  -- into 36 bytes
+  pub factors-unpack : (words-for n ≤ length ws) × (4 * words-for n ≤ 36)
+  factors-unpack = unpack-fits n (product-need d) 9 ws need words-there (product-need-bound d (fit .order))
+
+  pub factors-unpacked : (drawn : List ℕ) → length drawn ≡ 36 → Factors-fit d a b drawn
+  factors-unpacked drawn long =
+      record { order = fit .order; left = fit .left; right = fit .right; drawn = omega (arith, long, product-need-bound d (fit .order)) }
+
+  pub factors-made : (f : List ℕ → List ℕ) → ((ts us : List ℕ) → product-need d ≤ length ts → f (ts ++ us) ≡ f ts) → (o drawn q : List ℕ)
+      → drawn ≡ front (take (4 * words-for n) (bytes-of ws)) o → q ≡ f drawn → q ≡ f (bytes-of ws)
+  factors-made f surplus o drawn q = made-on-words f (product-need d) surplus n ws o drawn q need words-there

@@ -14,15 +14,16 @@ use Rattle.tape_words.specs.Words.{bytes-of, words-for}
 -- A choice is 2d masks, d of them for a and then d for b, each any byte, and the words of the tape, each any number of 32 bits; none is tied to
 -- another. What the product leaves of its last word, and words behind it, are as free as what it draws.
 
--- how many choices pass a test, on a tape of n words: each list of masks comes once, and with each of them each list of words once
+-- how many choices (of the randomness) pass a test, on a tape of n words: each list of masks comes once, and with each of them each list of words
+-- once
 unfoldable pub choices : (d n : ℕ) (test : (masks words : List ℕ) → Bool) → ℕ
 choices d n test = sums 256 (d + d) (λ ms. how-many (2 ^ 32) n (test ms))
 
--- the sheet that a choice makes of the factors x and y
+-- the sheet (the transcript) that a choice makes of the factors x and y
 unfoldable pub sheet-chosen : (d x y : ℕ) (masks words : List ℕ) → List ℕ
 sheet-chosen d x y ms ws = sheet times d (factor x (take d ms)) (factor y (drop d ms)) (bytes-of ws)
 
--- how many choices put just the reading's values at the listed places
+-- how many choices put just the reading's values (the observation) at the listed places (the probes)
 unfoldable pub word-readings : (d n x y : ℕ) (list reading : List ℕ) → ℕ
 word-readings d n x y ps rs = choices d n (λ ms ws. same (listed (sheet-chosen d x y ms ws) ps) rs)
 

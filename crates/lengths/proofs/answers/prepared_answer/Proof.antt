@@ -1,14 +1,10 @@
 -- `lengths::answers::prepared_answer` meets its contract. Assumes nothing.
-use mathlib.Core.Path.{sym, ap, _∙_, subst}
-use Prim.Native.Nat.{ℕ}
+use mathlib.Core.Path.{sym, _∙_, subst}
 use borrow.Author.Needs.{needs}
 use Rattle.xor.proofs.Tests.{not-true, not-false}
-use Rattle.outcomes.specs.Outcome.{answered, took}
 use Rattle.outcomes.proofs.OutcomeLaws.{answered-here, served-bounds}
-use Rattle.tape_words.specs.Words.{words-for}
 use Rattle.cipher.specs.Cipher.{encrypted-with-need}
 use Rattle.lengths.specs.Lengths.{Key-size}
-use Rattle.lengths.specs.Previews.{Block-tests}
 use Rattle.lengths.proofs.LengthsLaws.{prepared-sized}
 use Rattle.lengths.proofs.PreviewsLaws.{keyed-none, keyed-some, some-words, block-answered}
 use Rattle.lengths.proofs.answers.prepared_answer.Statement.{statement}
@@ -56,12 +52,9 @@ returns-3 c =
     let o = w .before in
     let a = o .before .before .args in
     let e = w .prepared-words .ensures .0 in
-    let f = c .block-answer .ensures
-    ∙ ap (λ (m : ℕ). answered (Block-tests m (a .order) (a .input) (a .tape) (a .output)) (took m))
-    (words .words-for .ensures ∙ ap words-for (n .encrypted-with-need .ensures .0))
-    in
     keyed-some _ _ _ _ _ _ e (sym (o .before .served .ensures) ∙ not-false _ (o .if1 .left)) (k .if2 .left)
-    (block-answered _ _ (a .order) (a .input) (a .tape) (a .output) (λ m. words-for (encrypted-with-need m (a .order))) _ e f)
+    (block-answered _ _ (a .order) (a .input) (a .tape) (a .output) _ _ (λ m. encrypted-with-need m (a .order)) _ e
+    (n .encrypted-with-need .ensures .0) (words .words-for .ensures) (c .block-answer .ensures))
 
 pub prepared-answer-spec : {M : Type 1} → statement M
 prepared-answer-spec =

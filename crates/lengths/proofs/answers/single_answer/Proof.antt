@@ -1,14 +1,10 @@
 -- `lengths::answers::single_answer` meets its contract. Assumes nothing.
-use mathlib.Core.Path.{sym, ap, _∙_, subst}
-use Prim.Native.Nat.{ℕ}
+use mathlib.Core.Path.{sym, _∙_, subst}
 use borrow.Author.Needs.{needs}
 use Rattle.xor.proofs.Tests.{not-true, not-false}
-use Rattle.outcomes.specs.Outcome.{answered, took}
 use Rattle.outcomes.proofs.OutcomeLaws.{answered-here, served-bounds}
-use Rattle.tape_words.specs.Words.{words-for}
 use Rattle.cipher.specs.Cipher.{cipher-need}
 use Rattle.lengths.specs.Lengths.{Key-size}
-use Rattle.lengths.specs.Previews.{Block-tests}
 use Rattle.lengths.proofs.LengthsLaws.{key-sized}
 use Rattle.lengths.proofs.PreviewsLaws.{keyed-none, keyed-some, some-words, block-answered}
 use Rattle.lengths.proofs.answers.single_answer.Statement.{statement}
@@ -56,12 +52,9 @@ returns-3 c =
     let o = w .before in
     let a = o .before .before .args in
     let e = w .key-words .ensures .0 in
-    let f = c .block-answer .ensures
-    ∙ ap (λ (m : ℕ). answered (Block-tests m (a .order) (a .input) (a .tape) (a .output)) (took m))
-    (words .words-for .ensures ∙ ap words-for (n .cipher-need .ensures))
-    in
     keyed-some _ _ _ _ _ _ e (sym (o .before .served .ensures) ∙ not-false _ (o .if1 .left)) (k .if2 .left)
-    (block-answered _ _ (a .order) (a .input) (a .tape) (a .output) (λ m. words-for (cipher-need m (a .order))) _ e f)
+    (block-answered _ _ (a .order) (a .input) (a .tape) (a .output) _ _ (λ m. cipher-need m (a .order)) _ e
+    (n .cipher-need .ensures) (words .words-for .ensures) (c .block-answer .ensures))
 
 pub single-answer-spec : {M : Type 1} → statement M
 single-answer-spec =

@@ -57,7 +57,12 @@ product-core-requires-3 c κs =
     let first = second .before .before .before .before .before .before .before .before .before .before .before in
     let start = first .before .before .before .before .before .before .before .before in
     let fits = start .pre .0 in (
-      record { order = fits .order; left = omega (arith, c, second, first, start); right = fits .long-z; drawn = omega (arith, second, first, start) },
+      record {
+        order = fits .order;
+        left = omega (arith, c, second, first, start);
+        right = fits .long-z;
+        drawn = omega (arith, second, first, start);
+      },
       omega (arith, second, first, start),
       start .pre .1,
     )

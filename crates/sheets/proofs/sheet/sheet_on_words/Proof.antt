@@ -4,12 +4,9 @@ use native.Mathlib.Omega.{arith}
 use borrow.Author.Needs.{needs}
 use denote.Ref.{now}
 use Rattle.gf256.specs.Field.{times}
-use Rattle.isw.specs.Place.{product-need, sheet}
-use Rattle.isw.proofs.OrderLaws.{product-need-bound}
 use Rattle.isw.proofs.SheetLaws.{sheet-surplus}
 use Rattle.tape_words.specs.Words.{words-for}
-use Rattle.tape_words.proofs.WordsLaws.{reach-words}
-use Rattle.tape_words.proofs.FrontLaws.{unpack-fits, made-on-words}
+use Rattle.masking.proofs.CallsLaws.{factors-unpack, factors-unpacked, factors-made}
 use Rattle.sheets.proofs.sheet.sheet_on_words.Statement.{statement}
 use Rattle.sheets.proofs.sheet.sheet_on_words.Tie as tie
 
@@ -22,20 +19,21 @@ slice-aggregate-unpack c = search needs
 unpack-requires : tie.Need-unpack-requires
 unpack-requires c κs =
     let start = c .before .before .before .before .before .before in
-    let v = start .args in
-    let fit = start .pre .0 in
-    unpack-fits _ (product-need (v .d)) 9 (now (v .tape)) (c .before .product-need .ensures) (reach-words _ (now (v .tape)) (fit .drawn))
-    (product-need-bound (v .d) (fit .order))
+    factors-unpack _ _ _ _ (now (start .args .tape)) (start .pre .0) (c .before .product-need .ensures)
 
 slice-aggregate-sheet-core : tie.Need-slice-aggregate-sheet-core
 slice-aggregate-sheet-core c = search needs
 
 sheet-core-requires : tie.Need-sheet-core-requires
 sheet-core-requires c κs =
-    let start = c .before .before .before .before .before .before .before .before .before .before in
-    let fit = start .pre .0 in
-    let few = product-need-bound (start .args .d) (fit .order) in
-    (record { order = fit .order; left = fit .left; right = fit .right; drawn = omega (arith, few) }, start .pre .1, start .pre .2)
+    let unpacked = c .before .before .before in
+    let need = unpacked .before .before in
+    let start = need .before .before .before .before .before in
+    let v = start .args in (
+      factors-unpacked (v .d) _ (now (v .a)) (now (v .b)) (now (v .tape)) (start .pre .0) (need .product-need .ensures) _ (omega arith),
+      start .pre .1,
+      start .pre .2,
+    )
 
 words-for-requires : tie.Need-words-for-requires
 words-for-requires c κs = search needs
@@ -50,11 +48,9 @@ returns c =
     let need = unpacked .before .before in
     let start = need .before .before .before .before .before in
     let v = start .args in
-    let words = reach-words _ (now (v .tape)) (start .pre .0 .drawn) in
-    let made = made-on-words (sheet times (v .d) (now (v .a)) (now (v .b))) _ (sheet-surplus times (v .d) (now (v .a)) (now (v .b))) in (
-      c .words-for .ensures ∙ ap words-for (core .sheet-core .ensures .0),
-      made _ (now (v .tape)) _ _ _ (need .product-need .ensures) words (unpacked .unpack .ensures) (core .sheet-core .ensures .1),
-    )
+    let made = factors-made _ _ _ _ (now (v .tape)) (start .pre .0) (need .product-need .ensures) _
+    (sheet-surplus times (v .d) (now (v .a)) (now (v .b))) _ _ _ (unpacked .unpack .ensures) in
+    (c .words-for .ensures ∙ ap words-for (core .sheet-core .ensures .0), made (core .sheet-core .ensures .1))
 
 pub sheet-on-words-spec : {M : Type 1} → statement M
 sheet-on-words-spec =
