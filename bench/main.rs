@@ -23,7 +23,7 @@ fn noise(seed: u64, len: usize) -> Vec<u8> {
 
 /// Words of tape for an encryption with a 16-byte key, whose 200 S-boxes draw a whole number of words.
 fn tape(order: usize) -> Vec<u32> {
-    let bytes = noise(3, 200 * (2 * order * order + 4 * order));
+    let bytes = noise(3, 200 * plain::s_box_bytes(order));
     bytes.chunks_exact(4).map(|b| u32::from_le_bytes([b[0], b[1], b[2], b[3]])).collect()
 }
 

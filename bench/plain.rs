@@ -75,10 +75,12 @@ fn raise_all(n: usize, x: &mut Shares, half: usize) {
 }
 
 fn refresh(n: usize, x: &mut Shares, tape: &mut Drawn) {
-    for i in 1..n {
-        let t = tape.draw();
-        x[0] ^= t;
-        x[i] ^= t;
+    for i in 0..n {
+        for j in i + 1..n {
+            let t = tape.draw();
+            x[i] ^= t;
+            x[j] ^= t;
+        }
     }
 }
 
@@ -95,6 +97,11 @@ fn product(n: usize, a: &Shares, b: &Shares, tape: &mut Drawn) -> Shares {
         }
     }
     c
+}
+
+/// Bytes that an S-box draws: two refreshes and four products, each one byte for each pair of shares.
+pub const fn s_box_bytes(order: usize) -> usize {
+    6 * (order * (order + 1) / 2)
 }
 
 fn s_box(n: usize, x: &Shares, tape: &mut Drawn) -> Shares {
@@ -138,9 +145,8 @@ struct Tape<'a> {
 
 /// The S-boxes of four bytes of such a string. They draw a whole number of words, which are unpacked together, each from its lowest byte on.
 fn substitute_four(n: usize, l: usize, four: [usize; 4], s: &mut [u8], tape: &mut Tape) {
-    let order = n - 1;
-    let words = 2 * order * order + 4 * order;
-    let mut bytes = [0u8; 640];
+    let words = s_box_bytes(n - 1);
+    let mut bytes = [0u8; 4 * s_box_bytes(MOST - 1)];
     for k in 0..words {
         bytes[4 * k..4 * k + 4].copy_from_slice(&tape.words[tape.at + k].to_le_bytes());
     }

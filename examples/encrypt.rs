@@ -115,7 +115,7 @@ const ORDER: usize = 2;
 const SHARES: usize = ORDER + 1;
 
 /// Words for two splits of 16 bytes, and for an encryption with a 16-byte key: 200 S-boxes. Both are whole words at every order.
-const TAPE: usize = 2 * (ORDER * 16 / 4) + 200 * (2 * ORDER * ORDER + 4 * ORDER) / 4;
+const TAPE: usize = 2 * (ORDER * 16 / 4) + 200 * (3 * ORDER * (ORDER + 1)) / 4;
 
 fn main() -> Result<(), Refused> {
     let key: [u8; 16] = core::array::from_fn(|k| k as u8);

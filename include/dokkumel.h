@@ -4,10 +4,11 @@
  * SHARES. A secret byte is held as n = d + 1 shares, numbered 0 to d, whose
  * XOR is the byte. d is the order: any d of the bytes that a masked product
  * computes say nothing about its factors. Orders 1 to 8 are served. That is
- * said of one product. Several together are another matter: the refresh
- * inside the S-box is the short one of the source, and it is known that with
- * it the S-box does not hide at higher orders what each product hides
- * (Coron, Prouff, Rivain and Roche, FSE 2013).
+ * proved of one product; of several together nothing is claimed. The refresh,
+ * by itself and inside the S-box, draws a byte for each pair of shares (since
+ * version 70; before, it was the source's short one, with which the S-box is
+ * known not to hide at higher orders what each product hides: Coron, Prouff,
+ * Rivain and Roche, FSE 2013).
  *
  * LAYOUT. A string of L bytes in shares is one buffer of n * L bytes: all of
  * share 0, then all of share 1, and so on. A single byte in shares is the
@@ -94,9 +95,9 @@ extern "C" {
  * under the same names; so this header refers to a function whose name
  * carries the version, and an archive of another version does not have it.
  */
-#define DOKKUMEL_VERSION          60
+#define DOKKUMEL_VERSION          70
 
-uint32_t dokkumel_version_60(void);
+uint32_t dokkumel_version_70(void);
 
 #if defined(__GNUC__)
 #if defined(__has_attribute)
@@ -105,7 +106,7 @@ __attribute__((retain))
 #endif
 #endif
 __attribute__((used))
-static uint32_t (*const dokkumel_linked_version)(void) = dokkumel_version_60;
+static uint32_t (*const dokkumel_linked_version)(void) = dokkumel_version_70;
 #endif
 
 #define DOKKUMEL_OK               0
@@ -141,7 +142,7 @@ static uint32_t (*const dokkumel_linked_version)(void) = dokkumel_version_60;
 #define DOKKUMEL_PREPARED(order, key_bytes) \
 	DOKKUMEL_SHARED(order, 16 * (DOKKUMEL_ROUNDS(key_bytes) + 1))
 
-/* Pairs of shares i < j in one product, which draws a byte for each. */
+/* Pairs of shares i < j: a refresh and a product draw a byte for each. */
 #define DOKKUMEL_PAIRS(order) \
 	((order) * ((order) + 1) / 2)
 
@@ -150,9 +151,9 @@ static uint32_t (*const dokkumel_linked_version)(void) = dokkumel_version_60;
 	(2 * DOKKUMEL_SHARES(order) + 5 * DOKKUMEL_PAIRS(order) \
 	+ DOKKUMEL_SHARES(order) * DOKKUMEL_SHARES(order))
 
-/* Bytes that one S-box draws. */
+/* Bytes that one S-box draws, which has two refreshes and four products. */
 #define DOKKUMEL_SBOX_BYTES(order) \
-	(2 * (order) * (order) + 4 * (order))
+	((2 + 4) * DOKKUMEL_PAIRS(order))
 
 /* Words that so many bytes are drawn from; of the last, some may be dropped. */
 #define DOKKUMEL_WORDS(bytes) \
@@ -161,7 +162,7 @@ static uint32_t (*const dokkumel_linked_version)(void) = dokkumel_version_60;
 /* Words of tape that a call takes. The product, its sheet and the reading of
    places take the same. DOKKUMEL_ENCRYPT_TAPE is a decryption's too. */
 #define DOKKUMEL_SPLIT_TAPE(order, bytes)  DOKKUMEL_WORDS((order) * (bytes))
-#define DOKKUMEL_REFRESH_TAPE(order)       DOKKUMEL_WORDS(order)
+#define DOKKUMEL_REFRESH_TAPE(order)       DOKKUMEL_WORDS(DOKKUMEL_PAIRS(order))
 #define DOKKUMEL_PRODUCT_TAPE(order)       DOKKUMEL_WORDS(DOKKUMEL_PAIRS(order))
 #define DOKKUMEL_SBOX_TAPE(order)          DOKKUMEL_WORDS(DOKKUMEL_SBOX_BYTES(order))
 #define DOKKUMEL_ENCRYPT_TAPE(order, key_bytes) \
@@ -186,7 +187,7 @@ static uint32_t (*const dokkumel_linked_version)(void) = dokkumel_version_60;
 #define DOKKUMEL_STACK_SHEET      3072
 #define DOKKUMEL_STACK_SBOX       2816
 #define DOKKUMEL_STACK_ENCRYPT    6144
-#define DOKKUMEL_STACK_PREPARE    3584
+#define DOKKUMEL_STACK_PREPARE    3840
 
 /*
  * Split a string into shares. Shares 1 to d are tape bytes, in turn; share 0
@@ -218,10 +219,11 @@ uint32_t dokkumel_join(size_t order,
 	size_t *taken);
 
 /*
- * Mask refresh: new shares of the same byte.
+ * Mask refresh: new shares of the same byte. For each pair i < j, i outer,
+ * both ascending, one drawn byte is XORed into share i, and then into share j.
  *
  *   input    n bytes
- *   tape     takes DOKKUMEL_REFRESH_TAPE(order), for d bytes
+ *   tape     takes DOKKUMEL_REFRESH_TAPE(order), for d * (d + 1) / 2 bytes
  *   output   n bytes
  *
  * Refusals: 1, 3, 4, 5.
@@ -299,7 +301,7 @@ uint32_t dokkumel_read_places(size_t order,
  * Masked S-box of AES, on one byte in shares.
  *
  *   input    n bytes
- *   tape     takes DOKKUMEL_SBOX_TAPE(order), for 2 * d * d + 4 * d bytes
+ *   tape     takes DOKKUMEL_SBOX_TAPE(order), for 3 * d * (d + 1) bytes
  *   output   n bytes
  *
  * Refusals: 1, 3, 4, 5.

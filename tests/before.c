@@ -9,20 +9,29 @@
 
 #include <stdio.h>
 
-/* At orders 1 to 8, each over the outputs for strings or keys of 16, 24 and 32 bytes. */
+/* From order 1 on, each over the outputs for strings or keys of 16, 24 and 32 bytes. */
 static const uint32_t sums[ROUTINES][DOKKUMEL_MAX_ORDER] = {
 	[SPLIT] = { 0xba3c41a0, 0x6983143c, 0x1a4d3030, 0x7ac4f154, 0xd2053b5c, 0x878c6610, 0x81050d6c, 0xa4d60120 },
 	[JOIN] = { 0x97cb884b, 0x8c3d911d, 0x195b73e4, 0xe312c396, 0xf55c5bc0, 0x92a35e0e, 0xe4b27245, 0x24e063a0 },
-	[REFRESH] = { 0x00c70d5f, 0x70aaaa54, 0x8d9c8f4b, 0x7bf8090a, 0x3779df7d, 0x39b32e0d, 0xb6cc00af, 0x654d7b9f },
+	[REFRESH] = { 0x00c70d5f },
 	[PRODUCT] = { 0xca744f97, 0xacdf13ff, 0xb1c99a23, 0x06ab4a64, 0x5675c103, 0xf9e11171, 0x70cf2bdb, 0xc4b1b2cd },
 	[SHEET] = { 0xaf98603e, 0xe5f3d464, 0xaeac5fe7, 0xbd7f6a36, 0x9a954678, 0xb44a55c1, 0xa6ec0d0c, 0xf3dda8ef },
 	[READ] = { 0x24f6ca9b, 0x433e9c07, 0x3797dd08, 0xad548ccc, 0xd81f7f62, 0xd0e74fa8, 0x6edbfff8, 0xfe422de1 },
-	[SBOX] = { 0x94eb49c2, 0x216ca477, 0xa606d426, 0x681d3068, 0x21fe41bf, 0x7d31502f, 0x6f1258e2, 0x1e90a849 },
-	[ENCRYPT] = { 0x365e5a26, 0x1e42be12, 0xa346366c, 0xca5145bd, 0x5aa47acd, 0x634b1ecd, 0x94fa80f9, 0x30bbab3f },
-	[DECRYPT] = { 0x62ddcfa1, 0xd838ec47, 0xdee49dde, 0x11b5a1c2, 0xc7364a07, 0xb9bd5ddc, 0xa6c51ced, 0xec948659 },
-	[PREPARE] = { 0x5398e414, 0x73838302, 0xefa5552a, 0xb4ec6eb4, 0x1f87ccf8, 0x1409cf1a, 0x9e579755, 0x77d04cfc },
-	[ENCRYPT_PREPARED] = { 0x3588d743, 0xfee530a2, 0xbfe6b087, 0x1e0c2e4a, 0x1e17e03d, 0x97aacea9, 0x6208e38e, 0x68c1c731 },
+	[SBOX] = { 0x94eb49c2 },
+	[ENCRYPT] = { 0x365e5a26 },
+	[DECRYPT] = { 0x62ddcfa1 },
+	[PREPARE] = { 0x5398e414 },
+	[ENCRYPT_PREPARED] = { 0x3588d743 },
 };
+
+/* Above order 1, whatever refreshes has other needs and other shares since document 02's wish 7; at order 1 its steps are the same. */
+static size_t last_order(enum routine routine)
+{
+	return routine == SPLIT || routine == JOIN || routine == PRODUCT || routine == SHEET || routine == READ ? DOKKUMEL_MAX_ORDER : 1;
+}
+
+/* Bytes of version 53's longest tape: so many are filled for each call, however few it draws. */
+#define FILLED 44160
 
 /* FNV-1a. */
 static uint32_t sum_on(uint32_t sum, const uint8_t *bytes, size_t len)
@@ -49,8 +58,8 @@ static void list_some(struct plan *c)
 
 static uint32_t sum_of(enum routine routine, size_t d)
 {
-	static uint8_t bytes[4 * DOKKUMEL_ENCRYPT_TAPE(8, 32)], in[3][DOKKUMEL_PREPARED(8, 32)], out[DOKKUMEL_PREPARED(8, 32)];
-	static uint32_t words[DOKKUMEL_ENCRYPT_TAPE(8, 32)];
+	static uint8_t bytes[FILLED], in[3][DOKKUMEL_PREPARED(8, 32)], out[DOKKUMEL_PREPARED(8, 32)];
+	static uint32_t words[FILLED / 4];
 	struct noise n = { 53 };
 	uint32_t sum = 2166136261;
 	size_t taken = 0;
@@ -76,7 +85,7 @@ void known_before(void)
 	char what[80];
 
 	for (int r = SPLIT; r < UNUSED; r++)
-		for (size_t d = 1; d <= DOKKUMEL_MAX_ORDER; d++) {
+		for (size_t d = 1; d <= last_order((enum routine)r); d++) {
 			uint32_t sum = sum_of((enum routine)r, d);
 
 			snprintf(what, sizeof what, "%s at order %zu: other shares than version 53's on the same bytes, %08x", routine_names[r], d, (unsigned)sum);

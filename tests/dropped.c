@@ -6,7 +6,7 @@
 
 #include <string.h>
 
-static uint32_t tape[1 << 14];
+static uint32_t tape[DOKKUMEL_ENCRYPT_TAPE(8, 32) + MAX_SURPLUS];
 
 static void change_byte(size_t k)
 {

@@ -26,7 +26,7 @@ void known_trips(uint64_t seed);
 /* The tape that each routine needs, in words. */
 void known_needs(void);
 
-/* The shares that were given when the tape was of bytes. */
+/* The shares that were given when the tape was of bytes, where no other refresh has changed them since. */
 void known_before(void);
 
 /* The refusals of all calls that take a key, in their order and at every length. */

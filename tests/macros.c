@@ -6,34 +6,37 @@
 
 #include <stdio.h>
 
-/* Document 01's tables, and document 02's numbers for prepared keys; tape in words. */
+/* Document 01's tables, and document 02's numbers for prepared keys and S-boxes; tape in words. */
 _Static_assert(DOKKUMEL_PLACES(1) == 13 && DOKKUMEL_PLACES(2) == 30 && DOKKUMEL_PLACES(3) == 54, "P(1) to P(3)");
 _Static_assert(DOKKUMEL_PLACES(8) == 279, "P(8)");
-_Static_assert(DOKKUMEL_ENCRYPT_TAPE(1, 16) == 300 && DOKKUMEL_ENCRYPT_TAPE(2, 16) == 800, "16-byte keys");
-_Static_assert(DOKKUMEL_ENCRYPT_TAPE(1, 24) == 336 && DOKKUMEL_ENCRYPT_TAPE(2, 24) == 896, "24-byte keys");
-_Static_assert(DOKKUMEL_ENCRYPT_TAPE(1, 32) == 414 && DOKKUMEL_ENCRYPT_TAPE(2, 32) == 1104, "32-byte keys");
-_Static_assert(DOKKUMEL_ENCRYPT_TAPE(8, 16) == 8000 && DOKKUMEL_ENCRYPT_TAPE(8, 24) == 8960, "order 8");
-_Static_assert(DOKKUMEL_ENCRYPT_TAPE(8, 32) == 11040, "order 8");
+_Static_assert(DOKKUMEL_ENCRYPT_TAPE(1, 16) == 300 && DOKKUMEL_ENCRYPT_TAPE(2, 16) == 900, "16-byte keys");
+_Static_assert(DOKKUMEL_ENCRYPT_TAPE(1, 24) == 336 && DOKKUMEL_ENCRYPT_TAPE(2, 24) == 1008, "24-byte keys");
+_Static_assert(DOKKUMEL_ENCRYPT_TAPE(1, 32) == 414 && DOKKUMEL_ENCRYPT_TAPE(2, 32) == 1242, "32-byte keys");
+_Static_assert(DOKKUMEL_ENCRYPT_TAPE(8, 16) == 10800 && DOKKUMEL_ENCRYPT_TAPE(8, 24) == 12096, "order 8");
+_Static_assert(DOKKUMEL_ENCRYPT_TAPE(8, 32) == 14904, "order 8");
 _Static_assert(DOKKUMEL_ROUNDS(16) == 10 && DOKKUMEL_ROUNDS(24) == 12 && DOKKUMEL_ROUNDS(32) == 14, "rounds");
 _Static_assert(DOKKUMEL_KEY_SBOXES(16) == 40 && DOKKUMEL_KEY_SBOXES(24) == 32 && DOKKUMEL_KEY_SBOXES(32) == 52, "S-boxes");
 _Static_assert(DOKKUMEL_ROUND_SBOXES(16) == 160 && DOKKUMEL_ROUND_SBOXES(24) == 192 && DOKKUMEL_ROUND_SBOXES(32) == 224, "S-boxes");
 _Static_assert(DOKKUMEL_SBOXES(16) == 200 && DOKKUMEL_SBOXES(24) == 224 && DOKKUMEL_SBOXES(32) == 276, "S-boxes");
 _Static_assert(DOKKUMEL_PREPARED(1, 16) == 352 && DOKKUMEL_PREPARED(2, 24) == 624 && DOKKUMEL_PREPARED(8, 32) == 2160, "prepared keys");
-_Static_assert(DOKKUMEL_PREPARE_TAPE(1, 16) == 60 && DOKKUMEL_PREPARE_TAPE(2, 24) == 128, "preparing");
-_Static_assert(DOKKUMEL_PREPARE_TAPE(8, 32) == 2080 && DOKKUMEL_ENCRYPT_PREPARED_TAPE(8, 32) == 8960, "order 8");
-_Static_assert(DOKKUMEL_ENCRYPT_PREPARED_TAPE(1, 16) == 240 && DOKKUMEL_ENCRYPT_PREPARED_TAPE(2, 24) == 768, "from prepared keys");
+_Static_assert(DOKKUMEL_PREPARE_TAPE(1, 16) == 60 && DOKKUMEL_PREPARE_TAPE(2, 24) == 144, "preparing");
+_Static_assert(DOKKUMEL_PREPARE_TAPE(8, 32) == 2808 && DOKKUMEL_ENCRYPT_PREPARED_TAPE(8, 32) == 12096, "order 8");
+_Static_assert(DOKKUMEL_ENCRYPT_PREPARED_TAPE(1, 16) == 240 && DOKKUMEL_ENCRYPT_PREPARED_TAPE(2, 24) == 864, "from prepared keys");
+_Static_assert(DOKKUMEL_SBOX_BYTES(1) == 6 && DOKKUMEL_SBOX_BYTES(2) == 18 && DOKKUMEL_SBOX_BYTES(3) == 36, "S-box");
+_Static_assert(DOKKUMEL_SBOX_BYTES(8) == 216, "S-box");
 /* Words that are used in part: one byte, a whole word, a byte more. */
-_Static_assert(DOKKUMEL_REFRESH_TAPE(1) == 1 && DOKKUMEL_REFRESH_TAPE(4) == 1 && DOKKUMEL_REFRESH_TAPE(5) == 2, "refresh");
+_Static_assert(DOKKUMEL_WORDS(1) == 1 && DOKKUMEL_WORDS(4) == 1 && DOKKUMEL_WORDS(5) == 2, "words");
+_Static_assert(DOKKUMEL_REFRESH_TAPE(2) == 1 && DOKKUMEL_REFRESH_TAPE(3) == 2 && DOKKUMEL_REFRESH_TAPE(8) == 9, "refresh");
 _Static_assert(DOKKUMEL_PRODUCT_TAPE(2) == 1 && DOKKUMEL_PRODUCT_TAPE(3) == 2 && DOKKUMEL_PRODUCT_TAPE(8) == 9, "product");
-_Static_assert(DOKKUMEL_SBOX_TAPE(1) == 2 && DOKKUMEL_SBOX_TAPE(2) == 4 && DOKKUMEL_SBOX_TAPE(3) == 8, "S-box");
+_Static_assert(DOKKUMEL_SBOX_TAPE(1) == 2 && DOKKUMEL_SBOX_TAPE(2) == 5 && DOKKUMEL_SBOX_TAPE(3) == 9, "S-box");
 _Static_assert(DOKKUMEL_SPLIT_TAPE(1, 16) == 4 && DOKKUMEL_SPLIT_TAPE(8, 32) == 64, "split");
 /* An argument that is a sum. */
-_Static_assert(DOKKUMEL_ENCRYPT_TAPE(1 + 1, 8 + 8) == 800 && DOKKUMEL_PLACES(1 + 2) == 54, "brackets");
+_Static_assert(DOKKUMEL_ENCRYPT_TAPE(1 + 1, 8 + 8) == 900 && DOKKUMEL_PLACES(1 + 2) == 54, "brackets");
 _Static_assert(DOKKUMEL_SHARED(1 + 1, 8 + 8) == 48 && DOKKUMEL_SPLIT_TAPE(1 + 1, 8 + 8) == 8, "brackets");
-_Static_assert(2 * DOKKUMEL_REFRESH_TAPE(4 + 1) == 4 && 2 * DOKKUMEL_PRODUCT_TAPE(2 + 1) == 4, "brackets");
-_Static_assert(2 * DOKKUMEL_SBOX_TAPE(1 + 2) == 16 && 2 * DOKKUMEL_WORDS(4 + 1) == 4, "brackets");
+_Static_assert(2 * DOKKUMEL_REFRESH_TAPE(2 + 1) == 4 && 2 * DOKKUMEL_PRODUCT_TAPE(2 + 1) == 4, "brackets");
+_Static_assert(2 * DOKKUMEL_SBOX_TAPE(1 + 2) == 18 && 2 * DOKKUMEL_WORDS(4 + 1) == 4, "brackets");
 _Static_assert(DOKKUMEL_PREPARED(1 + 1, 8 + 8) == 528 && 2 * DOKKUMEL_ROUNDS(8 + 8) == 20, "brackets");
-_Static_assert(DOKKUMEL_PREPARE_TAPE(1 + 1, 8 + 8) == 160 && DOKKUMEL_ENCRYPT_PREPARED_TAPE(1 + 1, 8 + 8) == 640, "brackets");
+_Static_assert(DOKKUMEL_PREPARE_TAPE(1 + 1, 8 + 8) == 180 && DOKKUMEL_ENCRYPT_PREPARED_TAPE(1 + 1, 8 + 8) == 720, "brackets");
 
 static const uint8_t zeros[DOKKUMEL_PREPARED(8, 32) + 1];
 static const uint32_t tape[DOKKUMEL_ENCRYPT_TAPE(8, 32)];
@@ -115,7 +118,7 @@ static void of_prepared(size_t d, size_t l)
 
 void known_macros(void)
 {
-	size_t taken = 0;
+	size_t past = DOKKUMEL_MAX_ORDER + 1, n = DOKKUMEL_SHARES(past), taken = 0;
 
 	for (size_t d = 1; d <= DOKKUMEL_MAX_ORDER; d++) {
 		of_bytes(d);
@@ -126,6 +129,6 @@ void known_macros(void)
 			of_prepared(d, l);
 		}
 	}
-	is(dokkumel_refresh(DOKKUMEL_MAX_ORDER + 1, zeros, 10, tape, 3, out, 10, &taken) == DOKKUMEL_REFUSED_ORDER,
+	is(dokkumel_refresh(past, zeros, n, tape, DOKKUMEL_REFRESH_TAPE(past), out, n, &taken) == DOKKUMEL_REFUSED_ORDER,
 		"DOKKUMEL_MAX_ORDER", DOKKUMEL_MAX_ORDER, 1);
 }

@@ -42,7 +42,7 @@ int main(int argc, char **argv)
 	known_needs();
 	puts("tape of every routine, order and length, in words: one less is refused, one more has no effect");
 	known_before();
-	puts("on the same bytes all shares are as they were when the tape was of bytes");
+	puts("on the same bytes all shares that the new refresh leaves alone are as they were when the tape was of bytes");
 	known_refusals();
 	puts("refusals of the calls that take a key: in their order, at every length, and as foretold");
 	known_previews();

@@ -1,17 +1,17 @@
 #include "needs.h"
 
 #include "key_sizes.h"
+#include "steps.h"
 #include "word_tape.h"
 
 size_t need_bytes(enum routine routine, size_t d, size_t l)
 {
-	size_t sbox = 2 * d * d + 4 * d;
+	size_t sbox = step_sbox_bytes(d);
 
 	switch (routine) {
 	case SPLIT:
 		return d * l;
 	case REFRESH:
-		return d;
 	case PRODUCT:
 	case SHEET:
 	case READ:

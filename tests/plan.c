@@ -102,7 +102,7 @@ static size_t tape_length(struct noise *n, size_t need, int is_short)
 
 	if (is_short && need > 0)
 		return roll == 0 ? 0 : roll == 1 ? noise_below(n, need) : need - 1;
-	return roll < 2 ? need : roll == 2 ? need + 1 + noise_below(n, 8) : need + noise_below(n, 2000);
+	return roll < 2 ? need : roll == 2 ? need + 1 + noise_below(n, 8) : need + noise_below(n, MAX_SURPLUS + 1);
 }
 
 /* At most d places below P(d), often the last, some twice; or more than d; or one that is not below P(d). The output is as long. */

@@ -17,6 +17,9 @@ extern const size_t plan_units[BUFFERS];
 
 #define MAX_LIST 64
 
+/* A tape is at most so many words longer than its call needs. */
+#define MAX_SURPLUS 2000
+
 struct plan {
 	enum routine routine;
 	size_t order;

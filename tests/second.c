@@ -49,6 +49,12 @@ uint32_t second_join(size_t order, const uint8_t *input, size_t input_len,
 	return 0;
 }
 
+/* Refusal 5 of all that draws a byte for each pair of shares: the refresh, and the three of the product. */
+static int short_tape(size_t order, size_t tape_len)
+{
+	return tape_len < tape_words(order * (order + 1) / 2);
+}
+
 uint32_t second_refresh(size_t order, const uint8_t *input, size_t input_len, const uint32_t *tape, size_t tape_len,
 	uint8_t *output, size_t output_len, size_t *taken)
 {
@@ -60,7 +66,7 @@ uint32_t second_refresh(size_t order, const uint8_t *input, size_t input_len, co
 		return 3;
 	if (output_len != order + 1)
 		return 4;
-	if (tape_len < tape_words(order))
+	if (short_tape(order, tape_len))
 		return 5;
 	memcpy(output, input, input_len);
 	step_refresh(order, output, &t);
@@ -74,11 +80,6 @@ static uint32_t unfit_factors(size_t order, size_t left_len, size_t right_len)
 	if (order < 1 || order > MAX_ORDER)
 		return 1;
 	return left_len != order + 1 || right_len != order + 1 ? 3 : 0;
-}
-
-static int short_tape(size_t order, size_t tape_len)
-{
-	return tape_len < tape_words(order * (order + 1) / 2);
 }
 
 static size_t places_of(size_t order)
@@ -161,7 +162,7 @@ uint32_t second_sbox(size_t order, const uint8_t *input, size_t input_len, const
 		return 3;
 	if (output_len != order + 1)
 		return 4;
-	if (tape_len < tape_words(2 * order * order + 4 * order))
+	if (tape_len < tape_words(step_sbox_bytes(order)))
 		return 5;
 	memcpy(output, input, input_len);
 	step_sbox(order, output, &t);

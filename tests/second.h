@@ -1,7 +1,7 @@
 /*
  * A second implementation of the library's routines, written from document
- * 01, and for prepared keys, decryption and tapes of words from document 02:
- * the same parameters, the same answers, refusals too.
+ * 01, and for prepared keys, decryption, tapes of words and the refresh from
+ * document 02: the same parameters, the same answers, refusals too.
  */
 #ifndef SECOND_H
 #define SECOND_H

@@ -6,11 +6,6 @@
 static const size_t key_sboxes[9] = { [4] = 40, [6] = 32, [8] = 52 };
 static const size_t round_sboxes[9] = { [4] = 160, [6] = 192, [8] = 224 };
 
-static size_t sbox_bytes(size_t order)
-{
-	return 2 * order * order + 4 * order;
-}
-
 /* 4, 6 or 8 if total is a key of so many words in n shares; else 0. */
 static size_t key_words(size_t total, size_t n)
 {
@@ -37,7 +32,7 @@ static uint32_t one_block(step_block *step, size_t sboxes, size_t words, size_t 
 		return 3;
 	if (output_len != 16 * (order + 1))
 		return 4;
-	if (tape_len < tape_words(sboxes * sbox_bytes(order)))
+	if (tape_len < tape_words(sboxes * step_sbox_bytes(order)))
 		return 5;
 	step(order, words, key, input, &t, output);
 	*taken = tape_words(t.drawn);
@@ -82,7 +77,7 @@ uint32_t second_prepare(size_t order, const uint8_t *key, size_t key_len, const 
 		return 2;
 	if (prepared_words(output_len, order + 1) != words)
 		return 4;
-	if (tape_len < tape_words(key_sboxes[words] * sbox_bytes(order)))
+	if (tape_len < tape_words(key_sboxes[words] * step_sbox_bytes(order)))
 		return 5;
 	step_prepare(order, words, key, &t, output);
 	*taken = tape_words(t.drawn);

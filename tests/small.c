@@ -1,4 +1,4 @@
-/* Document 01's small values and edges, with its tapes in words, through the C interface. */
+/* Document 01's small values and edges, with its tapes in words and document 02's refresh, through the C interface. */
 #include "known.h"
 
 #include "block_call.h"
@@ -7,20 +7,20 @@
 #include <stdio.h>
 #include <string.h>
 
-static const uint8_t zeros[33];
-static const uint32_t zero_tape[300];
+static const uint8_t zeros[48];
+static const uint32_t zero_tape[900];
 
 static void values(void)
 {
 	static const uint8_t a[] = { 0x02, 0x03 }, b[] = { 0x01, 0x04 }, product[] = { 0x12, 0x17 };
 	static const uint8_t sheet[] = { 2, 3, 1, 4, 0x10, 8, 0x18, 3, 0x1b, 2, 0x12, 0x0c, 0x17 };
-	static const uint8_t shares[] = { 0x10, 0x20, 0x30 }, refreshed[] = { 0x13, 0x21, 0x32 };
-	static const uint32_t tape[] = { 0x00000010 }, masks[] = { 0x00000201 };
+	static const uint8_t shares[] = { 0x10, 0x20, 0x30 }, refreshed[] = { 0x13, 0x22, 0x31 };
+	static const uint32_t tape[] = { 0x00000010 }, masks[] = { 0x00030201 };
 	uint8_t out[13] = { 0 };
 	size_t taken = 0;
 
 	known_is(dokkumel_refresh(2, shares, 3, masks, 1, out, 3, &taken) == 0 && taken == 1 && memcmp(out, refreshed, 3) == 0,
-		"refresh of 10 20 30 on the word 00000201 is 13 21 32");
+		"refresh of 10 20 30 on the word 00030201 is 13 22 31");
 	known_is(dokkumel_product_sheet(1, a, 2, b, 2, tape, 1, out, 13, &taken) == 0 && taken == 1 && memcmp(out, sheet, 13) == 0,
 		"the sheet of 02 03 and 01 04 on the word 00000010");
 	known_is(dokkumel_product(1, a, 2, b, 2, tape, 1, out, 2, &taken) == 0 && taken == 1 && memcmp(out, product, 2) == 0,
@@ -37,7 +37,7 @@ static void boxes(void)
 		"the S-box of 00 00 on zero tape is 00 63");
 	known_is(dokkumel_sbox(1, one, 2, zero_tape, 2, out, 2, &taken) == 0 && taken == 2 && memcmp(out, box_1, 2) == 0,
 		"the S-box of 01 00 on zero tape is 1f 63");
-	known_is(dokkumel_sbox(2, zeros, 3, zero_tape, 4, out, 3, &taken) == 0 && taken == 4 && memcmp(out, box_2, 3) == 0,
+	known_is(dokkumel_sbox(2, zeros, 3, zero_tape, 5, out, 3, &taken) == 0 && taken == 5 && memcmp(out, box_2, 3) == 0,
 		"the S-box of 00 00 00 on zero tape is 63 63 63");
 }
 
@@ -47,8 +47,8 @@ static void edges(void)
 	uint8_t out[10] = { 0 };
 	size_t taken = 0;
 
-	known_is(dokkumel_refresh(8, zeros, 9, zero_tape, 2, out, 9, &taken) == 0, "order 8 is served");
-	known_is(dokkumel_refresh(9, zeros, 10, zero_tape, 3, out, 10, &taken) == 1, "order 9 is refused (1)");
+	known_is(dokkumel_refresh(8, zeros, 9, zero_tape, 9, out, 9, &taken) == 0, "order 8 is served");
+	known_is(dokkumel_refresh(9, zeros, 10, zero_tape, 12, out, 10, &taken) == 1, "order 9 is refused (1)");
 	known_is(dokkumel_refresh(9, zeros, 10, zero_tape, 0, out, 10, &taken) == 1, "order 9 with an empty tape is refused (1)");
 	known_is(dokkumel_read_places(2, zeros, 3, zeros, 3, zero_tape, 1, places, 2, out, 2, &taken) == 0,
 		"at order 2, two places are read, 29 among them");
@@ -67,13 +67,17 @@ static void is(int good, const char *call, const char *what)
 /* Of an encryption; document 02 has the same of a decryption. */
 static void key_edges(const char *name, block_call *call)
 {
-	uint8_t out[32] = { 0 };
+	uint8_t out[48] = { 0 };
 	size_t taken = 0;
 
 	is(call(1, zeros, 32, zeros, 32, zero_tape, 300, out, 32, &taken) == 0 && taken == 300, name,
 		"a 16-byte key at order 1 with 300 words of tape is served");
 	is(call(1, zeros, 32, zeros, 32, zero_tape, 299, out, 32, &taken) == 5, name,
 		"a 16-byte key at order 1 with 299 words of tape is refused (5)");
+	is(call(2, zeros, 48, zeros, 48, zero_tape, 900, out, 48, &taken) == 0 && taken == 900, name,
+		"a 16-byte key at order 2 with 900 words of tape is served");
+	is(call(2, zeros, 48, zeros, 48, zero_tape, 899, out, 48, &taken) == 5, name,
+		"a 16-byte key at order 2 with 899 words of tape is refused (5)");
 	is(call(1, zeros, 33, zeros, 32, zero_tape, 300, out, 32, &taken) == 2, name, "33 key share bytes at order 1 are refused (2)");
 }
 

@@ -53,13 +53,16 @@ uint8_t step_inverse_affine(uint8_t a)
 	return affine(a, list, 3, 0x05);
 }
 
+/* Document 02, wish 7: one byte for each pair, in the product's order. */
 void step_refresh(size_t d, uint8_t *x, struct tape *t)
 {
-	for (size_t i = 1; i <= d; i++) {
-		uint8_t mask = note(draw(t), "t_%zu", i);
+	for (size_t i = 0; i <= d; i++) {
+		for (size_t j = i + 1; j <= d; j++) {
+			uint8_t mask = note(draw(t), "t(%zu,%zu)", i, j);
 
-		x[0] = note(x[0] ^ mask, "share 0 after t_%zu", i);
-		x[i] = note(x[i] ^ mask, "share %zu after t_%zu", i, i);
+			x[i] = note(x[i] ^ mask, "share %zu after t(%zu,%zu)", i, i, j);
+			x[j] = note(x[j] ^ mask, "share %zu after t(%zu,%zu)", j, i, j);
+		}
 	}
 }
 
@@ -129,6 +132,11 @@ static void power_254(size_t d, uint8_t *x, struct tape *t)
 	multiply(d, y, y, w, t);
 	note_where("u*z");
 	multiply(d, x, y, z, t);
+}
+
+size_t step_sbox_bytes(size_t d)
+{
+	return 3 * d * (d + 1);
 }
 
 void step_sbox(size_t d, uint8_t *x, struct tape *t)

@@ -28,6 +28,9 @@ void step_product(size_t d, const uint8_t *a, const uint8_t *b, struct tape *t, 
 typedef void step_box(size_t d, uint8_t *x, struct tape *t);
 step_box step_sbox, step_inverse_sbox;
 
+/* How many bytes either of them draws. */
+size_t step_sbox_bytes(size_t d);
+
 /* Either of them, for byte k of a string in shares that stand so far apart. */
 void step_box_at(size_t d, step_box *box, uint8_t *string, size_t apart, size_t k, struct tape *t);
 

@@ -7,7 +7,7 @@
 
 #define RUNS 60
 
-static void set_refresh(void) { inputs_whole(in.n, DOKKUMEL_REFRESH_TAPE(in.order), in.n); }
+void set_refresh(void) { inputs_whole(in.n, DOKKUMEL_REFRESH_TAPE(in.order), in.n); }
 static void set_product(void) { inputs_whole(in.n, DOKKUMEL_PRODUCT_TAPE(in.order), in.n); }
 static void set_sheet(void) { inputs_whole(in.n, DOKKUMEL_PRODUCT_TAPE(in.order), DOKKUMEL_PLACES(in.order)); }
 static void set_sbox(void) { inputs_whole(in.n, DOKKUMEL_SBOX_TAPE(in.order), in.n); }
@@ -39,11 +39,12 @@ static void note_shares(const uint8_t *x, const char *name)
 		in.second[i] = note(x[i], "share %zu", i);
 }
 
-static void note_refresh(void)
+void note_refresh(void)
 {
 	struct tape t = { in.tape, 0 };
 
 	note_shares(in.left, "input");
+	note_where("refresh");
 	step_refresh(in.order, in.second, &t);
 	note_dropped(&t);
 }

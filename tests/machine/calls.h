@@ -29,9 +29,14 @@ extern const size_t byte_call_count, block_call_count;
 /* A whole encryption, which takes minutes. */
 extern const struct call whole_call;
 
-/* Routines that hold what they must not: brackets moved, and two shares in one byte, in a whole call and in a window (planted.c). */
+/* Routines that hold what they must not: brackets moved, two draws of a refresh in one byte, and two shares in one byte, in a whole call and in a
+   window (planted.c). Each is tried at its last order alone. */
 extern const struct call planted[];
 extern const size_t planted_count;
+
+/* Of the refresh, which is also planted. */
+void set_refresh(void);
+void note_refresh(void);
 
 /* Before the first run of a call at an order. The window's places are those after so many draws to so many. */
 void call_begin(const struct call *c, size_t order, struct notes *n);

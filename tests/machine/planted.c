@@ -1,4 +1,4 @@
-/* Faults that the test must find each time, at order 1. */
+/* Faults that the test must find each time: at order 1, and in a refresh at order 2, where a row first has two draws. */
 #include "calls.h"
 
 #include "inputs.h"
@@ -34,6 +34,24 @@ static void note_moved(void)
 
 	step_product(in.order, in.left, in.right, &t, in.second, places);
 	note_dropped(&t);
+}
+
+/* A refresh whose first two draws meet each other before they meet share 0. */
+static void make_met(void)
+{
+	volatile uint8_t *x = in.out, t[3], both;
+
+	for (int k = 0; k < 3; k++) {
+		x[k] = in.left[k];
+		t[k] = (uint8_t)(in.tape[0] >> 8 * k);
+	}
+	both = t[0];
+	both ^= t[1];
+	x[0] ^= both;
+	x[1] ^= t[0];
+	x[1] ^= t[2];
+	x[2] ^= t[1];
+	x[2] ^= t[2];
 }
 
 /* Doubles a column in each of two shares, and holds a byte of both shares on the way. */
@@ -93,6 +111,7 @@ static void note_behind(void)
 
 const struct call planted[] = {
 	{ "planted: brackets moved", 1, RUNS, set_moved, draw_moved, make_moved, note_moved },
+	{ "planted: two draws met", 2, RUNS, set_refresh, draw_field, make_met, note_refresh },
 	{ "planted: two shares in a byte", 1, RUNS, set_column, draw_field, make_two_shares, note_two_shares },
 	{ "planted: behind four S-boxes", 1, RUNS, set_behind, draw_field, make_behind, note_behind },
 };

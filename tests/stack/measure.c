@@ -18,7 +18,7 @@ static void (*running)(void);
 /* The buffers of a call, and what it is made with. */
 static size_t order, key_bytes, taken;
 static uint8_t key[288], block[144], output[2160], prepared[2160];
-static uint32_t tape[16384];
+static uint32_t tape[DOKKUMEL_ENCRYPT_TAPE(8, 32)];
 #define DRAWN tape, sizeof tape / sizeof tape[0]
 
 static size_t shared(size_t bytes) { return DOKKUMEL_SHARED(order, bytes); }

@@ -1,5 +1,5 @@
--- What document 03 states of shares that join, in its own words: the product, the refresh, the S-box, the cipher and splitting. It compares
--- S-box and cipher with its own at order 0; both sides join to what FIPS 197 computes. Of its bounds on bytes, order and tape the proofs use one:
+-- What document 03 states of shares that join, in its own words: the product, its refresh, the S-box, the cipher and splitting; S-box and cipher with
+-- the refresh of document 02, wish 7. It compares these two with its own at order 0; both sides join to what FIPS 197 computes. Of its bounds on bytes, order and tape the proofs use one:
 -- the tape of a split. Assumes nothing.
 use mathlib.Core.Path.{_≡_, refl, sym, ap, ap₂, _∙_, subst}
 use mathlib.Core.Bool.{true, _&&_}
@@ -13,7 +13,7 @@ use lib.ListN.{length, getD, take, drop, length-map, length-drop}
 use lib.Seq.{length-take-le, ext-getD}
 use Rattle.xor.specs.Lists.{at, tab, runs, All, done, _&_}
 use Rattle.xor.specs.Sums.{joined, xors}
-use Rattle.xor.proofs.ListsLaws.{all-getD, tab-cong, tab-first, tab-at, at-map, map-tab}
+use Rattle.xor.proofs.ListsLaws.{all-getD, all-tab, tab-cong, tab-first, tab-at, at-map, map-tab}
 use Rattle.xor.proofs.StringLaws.{xors-nil-r, xors-assoc, length-both}
 use Rattle.xor.proofs.Tests.{true-T, and-left, and-right}
 use Rattle.gf256.specs.Field.{times, s-box}
@@ -21,7 +21,7 @@ use Rattle.gf256.proofs.ProductLaws.{times-left, times-right}
 use Rattle.isw.proofs.JoinLaws.{product-joins-all}
 use Rattle.isw.proofs.Document03Laws.{product-agrees}
 use Rattle.shares.specs.Strings.{Shares, Shared, alone, more, joined-string, laid, parts, split, split-need}
-use Rattle.shares.proofs.RefreshLaws.{refresh-joins}
+use Rattle.refresh.proofs.RefreshLaws.{pairs-refreshed-joins}
 use Rattle.shares.proofs.StringsLaws.{length-joined, laid-length, parts-laid, shared-split, laid-split, split-joins}
 use Rattle.sbox.proofs.BoxLaws.{box-joins}
 use Rattle.cipher.specs.Fips197.{cipher}
@@ -30,7 +30,7 @@ use Rattle.cipher.specs.Document03 as D
 use Rattle.cipher.proofs.StatesLaws.{column-joins}
 use Rattle.cipher.proofs.Accuracy.{encrypted-shared, cipher-joins}
 use Rattle.cipher.proofs.TurnedLaws.{bytes, bytes-length, bytes-at, nth-shares-is, shared-turned}
-use Rattle.cipher.proofs.Document03Laws.{refresh-agrees, box-agrees, some-words, encrypted-turned}
+use Rattle.cipher.proofs.Document03Laws.{short-refreshed, Same, strong-same, box-agrees, some-words, encrypted-turned}
 
 -- ---- the product
 
@@ -41,26 +41,28 @@ product-joins-document03 (x ∷ xs) b ts ha hb ht same some enough =
     ap joined (sym (product-agrees times (length xs) (x ∷ xs) b ts refl))
     ∙ product-joins-all times times-left times-right (length xs) (x ∷ xs) b ts refl (sym same)
 
--- ---- the refresh
+-- ---- the refresh: its own, the short one
 
 pub refresh-joins-document03 : D.Refresh-joins
 unfolding D.Refresh-joins
 refresh-joins-document03 [] ts ha ht enough = unfold D.refreshed in refl
 refresh-joins-document03 (x ∷ xs) ts ha ht enough =
-    ap joined (refresh-agrees (length xs) (x ∷ xs) ts refl) ∙ refresh-joins (length xs) (x ∷ xs) ts refl
+    ap joined (short-refreshed (length xs) (x ∷ xs) ts refl)
+    ∙ pairs-refreshed-joins (suc (length xs)) (all-tab (λ k. (0, suc k)) (length xs) (λ k l. (omega arith, omega arith))) (x ∷ xs) ts refl
 
 -- ---- the S-box
 
 -- its box joins to the S-box of FIPS 197
-pub box-joins-plain : (a ts : List ℕ) → 1 ≤ length a → joined (D.box a ts) ≡ s-box (joined a)
+pub box-joins-plain : (a ts : List ℕ) → 1 ≤ length a → joined (D.box D.strong a ts) ≡ s-box (joined a)
 box-joins-plain [] ts some = absurd (omega arith)
-box-joins-plain (x ∷ xs) ts some = ap joined (box-agrees (length xs) (x ∷ xs) ts refl) ∙ box-joins (length xs) (x ∷ xs) ts refl
+box-joins-plain (x ∷ xs) ts some =
+    ap joined (box-agrees D.strong (strong-same (length xs)) (x ∷ xs) ts refl) ∙ box-joins (length xs) (x ∷ xs) ts refl
 
 joined-alone : (x : ℕ) → joined (x ∷ []) ≡ x
 unfolding joined
 joined-alone x = xor-zero-r x
 
-pub box-joins-document03 : D.Box-joins
+pub box-joins-document03 : D.Box-joins D.strong
 unfolding D.Box-joins
 box-joins-document03 a ts ha ht some enough =
     box-joins-plain a ts some ∙ sym (box-joins-plain (joined a ∷ []) [] (omega arith) ∙ ap s-box (joined-alone (joined a)))
@@ -137,38 +139,38 @@ joined-all-alone (x ∷ xs) = ap₂ _∷_ (joined-alone x) (joined-all-alone xs)
 
 -- ---- the cipher
 
--- its cipher over shares joins to the cipher of FIPS 197
-module _ (nk : ℕ) (size : D.key-words nk ≡ true) where
-  turned-joins : {d : ℕ} {k x : Shares} (ts : List ℕ) → Shared (4 * nk) d k → Shared 16 d x
-      → D.joined-all (D.encrypted nk d (bytes (4 * nk) k) (bytes 16 x) ts) ≡ cipher nk (joined-string k) (joined-string x)
-  turned-joins ts hk hx =
+-- its cipher over shares joins to the cipher of FIPS 197, with any refresh that is ours at that order
+module _ (rf : D.Refresh) (nk : ℕ) (size : D.key-words nk ≡ true) where
+  turned-joins : {d : ℕ} {k x : Shares} (ts : List ℕ) → Same rf d → Shared (4 * nk) d k → Shared 16 d x
+      → D.joined-all (D.encrypted rf nk d (bytes (4 * nk) k) (bytes 16 x) ts) ≡ cipher nk (joined-string k) (joined-string x)
+  turned-joins ts same hk hx =
       let some = some-words nk size in
-      ap D.joined-all (encrypted-turned nk ts size hk hx) ∙ joined-all-turned (encrypted-shared nk ts some hk hx) ∙ cipher-joins nk ts some hk hx
+      ap D.joined-all (encrypted-turned rf same nk ts size hk hx) ∙ joined-all-turned (encrypted-shared nk ts some hk hx) ∙ cipher-joins nk ts some hk hx
 
-  pub cipher-joins-plain : (d : ℕ) (k x : D.Shared) (ts : List ℕ) → All (λ b. length b ≡ suc d) k → All (λ b. length b ≡ suc d) x
-      → length k ≡ 4 * nk → length x ≡ 16 → D.joined-all (D.encrypted nk d k x ts) ≡ cipher nk (D.joined-all k) (D.joined-all x)
-  cipher-joins-plain d k x ts hk hx lk lx =
+  pub cipher-joins-plain : (d : ℕ) (k x : D.Shared) (ts : List ℕ) → Same rf d → All (λ b. length b ≡ suc d) k → All (λ b. length b ≡ suc d) x
+      → length k ≡ 4 * nk → length x ≡ 16 → D.joined-all (D.encrypted rf nk d k x ts) ≡ cipher nk (D.joined-all k) (D.joined-all x)
+  cipher-joins-plain d k x ts same hk hx lk lx =
       let sk = shares-shared d k in
       let sx = shares-shared d x in
       let bk = bytes-of d k hk in
       let bx = bytes-of d x hx in
-      ap₂ (λ (k x : D.Shared). D.joined-all (D.encrypted nk d k x ts))
+      ap₂ (λ (k x : D.Shared). D.joined-all (D.encrypted rf nk d k x ts))
       (sym bk ∙ ap (λ (l : ℕ). bytes l (shares-of d k)) lk) (sym bx ∙ ap (λ (l : ℕ). bytes l (shares-of d x)) lx)
-      ∙ turned-joins ts (rw lk at sk) (rw lx at sx)
+      ∙ turned-joins ts same (rw lk at sk) (rw lx at sx)
       ∙ ap₂ (cipher nk) (sym (joined-all-turned sk) ∙ ap D.joined-all bk) (sym (joined-all-turned sx) ∙ ap D.joined-all bx)
 
   -- its AES is FIPS 197
-  pub aes-plain : (k x : List ℕ) → length k ≡ 4 * nk → length x ≡ 16 → D.aes nk k x ≡ cipher nk k x
+  pub aes-plain : (k x : List ℕ) → Same rf 0 → length k ≡ 4 * nk → length x ≡ 16 → D.aes rf nk k x ≡ cipher nk k x
   unfolding D.aes
-  aes-plain k x lk lx =
-      cipher-joins-plain 0 (D.alone k) (D.alone x) [] (alone-lengths k) (alone-lengths x) (length-alone k ∙ lk) (length-alone x ∙ lx)
+  aes-plain k x same lk lx =
+      cipher-joins-plain 0 (D.alone k) (D.alone x) [] same (alone-lengths k) (alone-lengths x) (length-alone k ∙ lk) (length-alone x ∙ lx)
       ∙ ap₂ (cipher nk) (joined-all-alone k) (joined-all-alone x)
 
-pub cipher-joins-document03 : D.Cipher-joins
+pub cipher-joins-document03 : D.Cipher-joins D.strong
 unfolding D.Cipher-joins
 cipher-joins-document03 nk d k x ts size order hk hx lk lx ht enough =
-    cipher-joins-plain nk size d k x ts (lengths (suc d) k (true-T hk)) (lengths (suc d) x (true-T hx)) lk lx
-    ∙ sym (aes-plain nk size (D.joined-all k) (D.joined-all x) (length-joined-all k ∙ lk) (length-joined-all x ∙ lx))
+    cipher-joins-plain D.strong nk size d k x ts (strong-same d) (lengths (suc d) k (true-T hk)) (lengths (suc d) x (true-T hx)) lk lx
+    ∙ sym (aes-plain D.strong nk size (D.joined-all k) (D.joined-all x) (strong-same 0) (length-joined-all k ∙ lk) (length-joined-all x ∙ lx))
 
 -- ---- splitting
 

@@ -1,13 +1,13 @@
--- How much tape each step takes, in closed form: document 01's counts and its table. Assumes nothing.
+-- How much tape each step takes, in closed form: document 01's counts and its table, with the refresh of document 02, wish 7. Assumes nothing.
 use mathlib.Core.Path.{_≡_, refl, sym, ap, _∙_, subst}
 use mathlib.Core.List.{List, [], _∷_, map}
 use Prim.Native.Nat.{ℕ, zero, suc, _+_, _*_, _-_}
 use native.Mathlib.Nat.{suc-mul, mul-assoc, mul-left-comm}
 use native.Mathlib.Omega.{arith}
 use Rattle.xor.specs.Lists.{tab, runs}
-use Rattle.xor.specs.Pairs.{before-row}
+use Rattle.xor.specs.Pairs.{each-pair, pairs, before-row}
 use Rattle.isw.specs.Place.{product-need}
-use Rattle.shares.specs.Refresh.{refresh-pairs, refresh-need}
+use Rattle.refresh.specs.Refresh.{refresh-pairs, refresh-need}
 use Rattle.power254.specs.Power254.{stage-need, power-need}
 use Rattle.sbox.specs.Box.{box-need}
 use Rattle.tape_words.specs.Words.{words-for}
@@ -94,11 +94,11 @@ pub cipher-whole : (nk d : ℕ) → Whole (cipher-need nk d)
 unfolding cipher-need
 cipher-whole nk d = whole-add _ _ (schedule-whole nk d) (encrypted-with-whole nk d)
 
--- document 01's table in words, as document 02, wish 6, restates it: a row for each size of key, at orders 1, 2 and 8
+-- document 01's table in words, as document 02, wishes 6 and 7, restate it: a row for each size of key, at orders 1, 2 and 8
 pub tape-table : map (λ nk. map (λ d. words-for (cipher-need nk d)) (1 ∷ 2 ∷ 8 ∷ [])) (4 ∷ 6 ∷ 8 ∷ [])
-    ≡ (300 ∷ 800 ∷ 8000 ∷ []) ∷ (336 ∷ 896 ∷ 8960 ∷ []) ∷ (414 ∷ 1104 ∷ 11040 ∷ []) ∷ []
+    ≡ (300 ∷ 900 ∷ 10800 ∷ []) ∷ (336 ∷ 1008 ∷ 12096 ∷ []) ∷ (414 ∷ 1242 ∷ 14904 ∷ []) ∷ []
 unfolding cipher-need encrypted-with-need rounds-need schedule-need schedule-from-need temp-need kind subs-need rounds total-words power-need
-    stage-need refresh-need refresh-pairs product-need before-row tab runs words-for
+    stage-need refresh-need refresh-pairs pairs each-pair product-need before-row tab runs words-for
 tape-table = refl
 
 -- ---- all that a call for a block or a key can take, in words: a row for each order from 1 to 8, with keys of 16, 24 and 32 bytes
@@ -107,22 +107,22 @@ abbrev by-order : ((nk d : ℕ) → ℕ) → List (List ℕ)
 by-order need = map (λ d. map (λ nk. words-for (need nk d)) (4 ∷ 6 ∷ 8 ∷ [])) (1 ∷ 2 ∷ 3 ∷ 4 ∷ 5 ∷ 6 ∷ 7 ∷ 8 ∷ [])
 
 pub preparation-table : by-order schedule-need
-    ≡ (60 ∷ 48 ∷ 78 ∷ []) ∷ (160 ∷ 128 ∷ 208 ∷ []) ∷ (300 ∷ 240 ∷ 390 ∷ []) ∷ (480 ∷ 384 ∷ 624 ∷ []) ∷ (700 ∷ 560 ∷ 910 ∷ [])
-    ∷ (960 ∷ 768 ∷ 1248 ∷ []) ∷ (1260 ∷ 1008 ∷ 1638 ∷ []) ∷ (1600 ∷ 1280 ∷ 2080 ∷ []) ∷ []
+    ≡ (60 ∷ 48 ∷ 78 ∷ []) ∷ (180 ∷ 144 ∷ 234 ∷ []) ∷ (360 ∷ 288 ∷ 468 ∷ []) ∷ (600 ∷ 480 ∷ 780 ∷ [])
+    ∷ (900 ∷ 720 ∷ 1170 ∷ []) ∷ (1260 ∷ 1008 ∷ 1638 ∷ []) ∷ (1680 ∷ 1344 ∷ 2184 ∷ []) ∷ (2160 ∷ 1728 ∷ 2808 ∷ []) ∷ []
 unfolding cipher-need encrypted-with-need rounds-need schedule-need schedule-from-need temp-need kind subs-need rounds total-words power-need
-    stage-need refresh-need refresh-pairs product-need before-row tab runs words-for
+    stage-need refresh-need refresh-pairs pairs each-pair product-need before-row tab runs words-for
 preparation-table = refl
 
 pub rounds-table : by-order encrypted-with-need
-    ≡ (240 ∷ 288 ∷ 336 ∷ []) ∷ (640 ∷ 768 ∷ 896 ∷ []) ∷ (1200 ∷ 1440 ∷ 1680 ∷ []) ∷ (1920 ∷ 2304 ∷ 2688 ∷ []) ∷ (2800 ∷ 3360 ∷ 3920 ∷ [])
-    ∷ (3840 ∷ 4608 ∷ 5376 ∷ []) ∷ (5040 ∷ 6048 ∷ 7056 ∷ []) ∷ (6400 ∷ 7680 ∷ 8960 ∷ []) ∷ []
+    ≡ (240 ∷ 288 ∷ 336 ∷ []) ∷ (720 ∷ 864 ∷ 1008 ∷ []) ∷ (1440 ∷ 1728 ∷ 2016 ∷ []) ∷ (2400 ∷ 2880 ∷ 3360 ∷ [])
+    ∷ (3600 ∷ 4320 ∷ 5040 ∷ []) ∷ (5040 ∷ 6048 ∷ 7056 ∷ []) ∷ (6720 ∷ 8064 ∷ 9408 ∷ []) ∷ (8640 ∷ 10368 ∷ 12096 ∷ []) ∷ []
 unfolding cipher-need encrypted-with-need rounds-need schedule-need schedule-from-need temp-need kind subs-need rounds total-words power-need
-    stage-need refresh-need refresh-pairs product-need before-row tab runs words-for
+    stage-need refresh-need refresh-pairs pairs each-pair product-need before-row tab runs words-for
 rounds-table = refl
 
 pub single-table : by-order cipher-need
-    ≡ (300 ∷ 336 ∷ 414 ∷ []) ∷ (800 ∷ 896 ∷ 1104 ∷ []) ∷ (1500 ∷ 1680 ∷ 2070 ∷ []) ∷ (2400 ∷ 2688 ∷ 3312 ∷ []) ∷ (3500 ∷ 3920 ∷ 4830 ∷ [])
-    ∷ (4800 ∷ 5376 ∷ 6624 ∷ []) ∷ (6300 ∷ 7056 ∷ 8694 ∷ []) ∷ (8000 ∷ 8960 ∷ 11040 ∷ []) ∷ []
+    ≡ (300 ∷ 336 ∷ 414 ∷ []) ∷ (900 ∷ 1008 ∷ 1242 ∷ []) ∷ (1800 ∷ 2016 ∷ 2484 ∷ []) ∷ (3000 ∷ 3360 ∷ 4140 ∷ [])
+    ∷ (4500 ∷ 5040 ∷ 6210 ∷ []) ∷ (6300 ∷ 7056 ∷ 8694 ∷ []) ∷ (8400 ∷ 9408 ∷ 11592 ∷ []) ∷ (10800 ∷ 12096 ∷ 14904 ∷ []) ∷ []
 unfolding cipher-need encrypted-with-need rounds-need schedule-need schedule-from-need temp-need kind subs-need rounds total-words power-need
-    stage-need refresh-need refresh-pairs product-need before-row tab runs words-for
+    stage-need refresh-need refresh-pairs pairs each-pair product-need before-row tab runs words-for
 single-table = refl

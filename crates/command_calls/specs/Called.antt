@@ -3,7 +3,8 @@
 use mathlib.Core.List.{List}
 use Prim.Native.Nat.{ℕ}
 use Rattle.outcomes.specs.Outcome.{Outcome, refused}
-use Rattle.shares.specs.Calls.{Split-outcome, Join-outcome, Refresh-outcome}
+use Rattle.shares.specs.Calls.{Split-outcome, Join-outcome}
+use Rattle.refresh.specs.Calls.{Refresh-outcome}
 use Rattle.masking.specs.Calls.{Product-outcome}
 use Rattle.sbox.specs.Calls.{Box-outcome}
 use Rattle.aes.specs.Calls.{Encrypt-outcome, Decrypt-outcome, Prepare-outcome, Encrypt-prepared-outcome}

@@ -59,7 +59,7 @@ fn call(
         Command::EncryptPrepared => aes::encrypt_prepared(order, first, second, tape, output),
         Command::Split => shares::split(order, first, tape, output),
         Command::Join => shares::join(order, first, output),
-        Command::Refresh => shares::refresh(order, first, tape, output),
+        Command::Refresh => refresh::refresh(order, first, tape, output),
         Command::Product => masking::masked_product(order, first, second, tape, output),
         Command::Sbox => sbox::masked_box(order, first, tape, output),
         _ => Answer::Refused(Refusal::Order),

@@ -1,6 +1,7 @@
 // Splitting, joining and mask refresh, for C.
 ghost use mathlib.Core.Path.{_≡_};
-ghost use Rattle.shares.specs.Calls.{Split-outcome, Join-outcome, Refresh-outcome};
+ghost use Rattle.shares.specs.Calls.{Split-outcome, Join-outcome};
+ghost use Rattle.refresh.specs.Calls.{Refresh-outcome};
 ghost use Rattle.dokkumel_c.specs.Returned.{gives, returned};
 
 #[no_mangle]
@@ -43,6 +44,6 @@ pub extern "C" fn dokkumel_refresh(
     ensures { λ r. ⌜ gives r (now (taken .exit)) (now (output .exit))
         ≡ returned (Refresh-outcome order (now (input .entry)) (now (tape .entry)) (now (output .entry))) (now (taken .entry)) ⌝ }
 {
-    let answer = shares::refresh(order, input, tape, output);
+    let answer = refresh::refresh(order, input, tape, output);
     crate::status::returned(answer, taken)
 }

@@ -14,7 +14,8 @@ use Rattle.xor.specs.Lists.{at, runs, tab, done, _&_, Below}
 use Rattle.xor.proofs.ListsLaws.{tab-cong, tab-first, tab-last, map-runs, map-tab, tab-at}
 use Rattle.xor.proofs.RunsLaws.{runs-from, tab-from, runs-zero}
 use Rattle.xor.proofs.Tests.{by-eq, true-T, and-left, and-right}
-use Rattle.isw.specs.Place.{Place, left, right, part, running, skip, row, byte, pair-row, drawn, product-need, value, sheet, listed}
+use Rattle.xor.specs.Running.{running}
+use Rattle.isw.specs.Place.{Place, left, right, part, skip, row, byte, pair-row, drawn, product-need, value, sheet, listed}
 use Rattle.isw.specs.Place as P
 use Rattle.isw.specs.Hiding.{total, sums, factor, choice-length, chosen, same}
 use Rattle.isw.specs.Hiding as H

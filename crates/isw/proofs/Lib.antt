@@ -1,4 +1,3 @@
-pub mod RunningLaws
 pub mod OrderLaws
 pub mod PlaceLaws
 pub mod JoinLaws

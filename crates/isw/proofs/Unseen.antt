@@ -13,7 +13,7 @@ use Rattle.xor.proofs.ListsLaws.{all-map}
 use Rattle.xor.proofs.Tests.{by-lt, or-left, or-right, or-cases, and-both, and-left, and-right}
 use Rattle.xor.proofs.XorLaws.{xor-sums}
 use Rattle.isw.specs.Place.{Place, left, right, draw, cross, half, back, part, skip, half-sum, other, term, row, byte}
-use Rattle.isw.proofs.RunningLaws.{running-cong}
+use Rattle.xor.proofs.RunningLaws.{running-cong}
 use Rattle.isw.proofs.PlaceLaws.{Within, skip-lt, skip-ne}
 
 -- ---- which shares a place sees

@@ -8,7 +8,7 @@ use native.Mathlib.Omega.{arith}
 use Rattle.outcomes.specs.Outcome.{one-of, share-length}
 use Rattle.outcomes.proofs.LengthsLaws.{one-of-here, one-of-next, one-of-is, one-of-each, one-of-le, none, also, share-length-16, share-length-24}
 use Rattle.outcomes.proofs.LengthsLaws.{share-length-32, share-length-cases, share-length-is}
-use Rattle.sbox.specs.Box.{box-need}
+use Rattle.sbox.specs.Box.{box-need, box-most}
 use Rattle.sbox.proofs.BoxLaws.{box-need-bound}
 use Rattle.cipher.specs.Fips197.{rounds}
 use Rattle.cipher.specs.Cipher.{schedule-need, encrypted-with-need}
@@ -125,7 +125,7 @@ schedule-need-made d four = sym (schedule-need-4 d)
 schedule-need-made d six = sym (schedule-need-6 d)
 schedule-need-made d eight = sym (schedule-need-8 d)
 
-pub schedule-need-bound : {nk : ℕ} (d : ℕ) → Key-size nk → d ≤ 8 → boxes-of nk * box-need d ≤ 8320
+pub schedule-need-bound : {nk : ℕ} (d : ℕ) → Key-size nk → d ≤ 8 → boxes-of nk * box-need d ≤ 52 * box-most
 schedule-need-bound d size h = mul-le-mul (boxes-bound size) (box-need-bound d h)
 
 pub encrypted-with-need-made : {nk : ℕ} (d : ℕ) → Key-size nk → 16 * (nk + 6) * box-need d ≡ encrypted-with-need nk d
@@ -134,7 +134,7 @@ encrypted-with-need-made d four = omega (arith, encrypted-with-need-is 4 d)
 encrypted-with-need-made d six = omega (arith, encrypted-with-need-is 6 d)
 encrypted-with-need-made d eight = omega (arith, encrypted-with-need-is 8 d)
 
-pub encrypted-with-need-bound : {nk : ℕ} (d : ℕ) → Key-size nk → d ≤ 8 → 16 * (nk + 6) * box-need d ≤ 35840
+pub encrypted-with-need-bound : {nk : ℕ} (d : ℕ) → Key-size nk → d ≤ 8 → 16 * (nk + 6) * box-need d ≤ 224 * box-most
 encrypted-with-need-bound {nk} d size h =
     let b = size-bounds size in
     let n : 16 * (nk + 6) ≤ 224 = omega arith in

@@ -1,7 +1,8 @@
 // How many tape bytes each routine draws. Document 01's table and document 02, wish 1, decide.
 ghost use mathlib.Core.Path.{_≡_};
-ghost use Prim.Native.Nat.{_≤_};
+ghost use Prim.Native.Nat.{_*_, _≤_};
 ghost use Rattle.cipher.specs.Cipher as Cipher;
+ghost use Rattle.sbox.specs.Box as Box;
 ghost use Rattle.lengths.specs.Lengths.{Key-size};
 ghost use Rattle.lengths.specs.Lengths.{boxes-of};
 
@@ -21,7 +22,7 @@ fn key_boxes(nk: usize) -> usize
 // How many bytes a key expansion draws.
 pub fn schedule_need(nk: usize, d: usize) -> usize
     requires { ⌜ (d ≤ 8) × Key-size nk ⌝ }
-    ensures { λ r. ⌜ (r ≡ Cipher.schedule-need nk d) × (r ≤ 8320) ⌝ }
+    ensures { λ r. ⌜ (r ≡ Cipher.schedule-need nk d) × (r ≤ 52 * Box.box-most) ⌝ }
 {
     key_boxes(nk) * sbox::boxes::box_need(d)
 }
@@ -29,7 +30,7 @@ pub fn schedule_need(nk: usize, d: usize) -> usize
 // How many bytes the rounds draw, either way: 16 S-boxes each.
 pub fn encrypted_with_need(nk: usize, d: usize) -> usize
     requires { ⌜ (d ≤ 8) × Key-size nk ⌝ }
-    ensures { λ r. ⌜ (r ≡ Cipher.encrypted-with-need nk d) × (r ≤ 35840) ⌝ }
+    ensures { λ r. ⌜ (r ≡ Cipher.encrypted-with-need nk d) × (r ≤ 224 * Box.box-most) ⌝ }
 {
     16 * (nk + 6) * sbox::boxes::box_need(d)
 }

@@ -29,7 +29,7 @@ fn words(first: usize, next: usize) {
 fn steps(d: usize, first: usize) -> usize
     requires { ⌜ d ≤ 8 ⌝ }
 {
-    let r = shares::refreshing::refresh_need(d);
+    let r = refresh::refreshing::refresh_need(d);
     let p = masking::product::product_need(d);
     let mut at = step(b": refresh z ", first, r);
     at = step(b", z*x ", at, p);

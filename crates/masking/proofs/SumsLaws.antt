@@ -1,65 +1,28 @@
 -- The running sums of a product's shares, which take in its terms row by row, in the order of the draws. Assumes nothing.
-use mathlib.Core.Path.{_≡_, refl, sym, ap, ap₂, _∙_}
+use mathlib.Core.Path.{_≡_, refl, sym, ap, _∙_}
 use mathlib.Core.List.{List}
 use Prim.Native.Nat.{ℕ, zero, suc, _+_, _-_, _≤_, _<_}
 use native.Mathlib.Omega.{arith}
 use native.Mathlib.Numerals.{add-one}
 use native.Mathlib.Decide.{decLt}
 use lib.Bits.{bitXor}
-use lib.ListN.{length, drop, set, length-set}
+use lib.ListN.{length, drop, set}
 use lib.Seq.{getD-set-same, getD-set-other}
 use Rattle.xor.specs.Lists.{at, tab}
 use Rattle.xor.specs.Pairs.{before-row}
+use Rattle.xor.specs.Running.{running, behind-taken, row-taken}
 use Rattle.xor.proofs.ListsLaws.{length-tab, at-tab, tab-at, tab-cong}
 use Rattle.gf256.specs.Field.{times}
-use Rattle.isw.specs.Place.{running, row, drawn, product}
+use Rattle.isw.specs.Place.{row, drawn, product}
 use Rattle.isw.proofs.PlaceLaws.{skip-past, skip-before}
 use Rattle.xor.specs.Writes.{front}
+use Rattle.xor.proofs.RunningLaws.{length-behind, behind-cong}
 use Rattle.xor.proofs.WriteLaws.{at-front}
-use Rattle.masking.specs.Steps.{backs, starts, behind-taken, row-taken, pairs-taken}
+use Rattle.masking.specs.Steps.{backs, starts, pairs-taken}
 use Rattle.masking.proofs.TermsLaws.{r, row-draws, row-backs, product-rows}
 
 pub length-starts : (a b : List ℕ) (n : ℕ) (o : List ℕ) → o ≡ starts a b n → length o ≡ n
 length-starts a b n o e = ap length e ∙ length-tab _ _
-
--- ---- a share's own sums over the draws of its row
-
-module _ (start : ℕ) (tape : List ℕ) where
-  pub own-next : (m s q : ℕ) → s ≡ running start (at tape) m → q ≡ bitXor s (at tape m) → q ≡ running start (at tape) (m + 1)
-  unfolding running
-  own-next m s q e f = rw (f, e, add-one) refl
-
-  -- the last of them stands at the end of their row
-  pub own-last : (y o : List ℕ) (w : ℕ) → 0 < w → y ≡ front (tab (λ k. running start (at tape) (k + 1)) w) o
-      → at y (w - 1) ≡ running start (at tape) w
-  own-last y o w h f =
-      let x : w - 1 + 1 ≡ w = omega arith in
-      at-front (λ k. running start (at tape) (k + 1)) w (w - 1) y o f (omega arith) ∙ ap (running start (at tape)) x
-
--- ---- those of the shares behind it
-
-module _ (i : ℕ) (f : ℕ → ℕ) (s : List ℕ) where
-  pub length-behind : (m : ℕ) → length (behind-taken i f s m) ≡ length s
-  unfolding behind-taken
-  length-behind zero = refl
-  length-behind (suc m) = length-set (behind-taken i f s m) (i + 1 + m) _ ∙ length-behind m
-
-  pub behind-next : (m v : ℕ) (y : List ℕ) → y ≡ behind-taken i f s m → v ≡ bitXor (at y (i + 1 + m)) (f m)
-      → set y (i + 1 + m) v ≡ behind-taken i f s (m + 1)
-  unfolding behind-taken
-  behind-next m v y e g = rw (g, e, add-one m) refl
-
-  -- the row's end
-  pub row-taken-last : (w v : ℕ) (d : ℕ → ℕ) (y : List ℕ) → y ≡ behind-taken i f s w → v ≡ running (at s i) d w → set y i v ≡ row-taken i w d f s
-  unfolding row-taken
-  row-taken-last w v d y e g = rw (e, g) refl
-
-behind-cong : (i : ℕ) (f g : ℕ → ℕ) (s : List ℕ) (w : ℕ) → ((m : ℕ) → m < w → f m ≡ g m) → behind-taken i f s w ≡ behind-taken i g s w
-unfolding behind-taken
-behind-cong i f g s zero h = refl
-behind-cong i f g s (suc w) h =
-    ap₂ (λ (y : List ℕ) (v : ℕ). set y (i + 1 + w) (bitXor (at y (i + 1 + w)) v))
-    (behind-cong i f g s w (λ m l. h m (omega arith))) (h w (omega arith))
 
 -- on a row that holds the backs of the pairs
 pub row-taken-backs : (a b tape : List ℕ) (i w : ℕ) (s y k o : List ℕ) → k ≡ front (tab (backs a b tape i) w) o

@@ -10,7 +10,7 @@ use lib.Seq.{getD-drop}
 use Rattle.xor.specs.Lists.{at, tab}
 use Rattle.xor.specs.Pairs.{before-row, pair-count, draw-index}
 use Rattle.xor.proofs.ListsLaws.{map-tab, tab-cong}
-use Rattle.xor.proofs.PairsLaws.{before-row-next, before-row-le, pair-count-last}
+use Rattle.xor.proofs.PairsLaws as Pairs
 use Rattle.gf256.specs.Field.{times}
 use Rattle.isw.specs.Place.{part, half-sum, other, term, row, byte, outputs, drawn, product-need, value, product}
 use Rattle.xor.specs.Writes.{front}
@@ -53,17 +53,14 @@ product-need-rows d = refl
 -- the last share has no row of its own
 pub product-need-last : (d : ℕ) → product-need d ≡ before-row (suc d) d
 unfolding product-need
-product-need-last d = pair-count-last d
+product-need-last d = Pairs.pair-count-last d
 
 -- row i of its pairs, whose draws stand on the tape from k on: what it counts, and that it fits
 module _ (d i k : ℕ) (h : i < d) (e : k ≡ before-row (suc d) i) where
   pub row-counts : (i + 1 ≤ d) × (k + (d - i) ≡ before-row (suc d) (i + 1))
       × (before-row (suc d) (i + 1) ≤ product-need d) × (suc d ≡ i + 1 + (d - i))
-  row-counts =
-      let x = before-row-next (suc d) i in
-      let u = before-row-le (suc d) i (omega arith) in
-      let z = product-need-rows d in
-      (omega arith, omega arith, omega arith, omega arith)
+  unfolding product-need
+  row-counts = Pairs.row-counts d i k h e
 
   pub row-fits : (a b ts s : List ℕ) → Factors-fit d a b ts → length s ≡ suc d → Row-fits i (d - i) a b (take (length ts - k) (drop k ts)) s
   row-fits a b ts s f ls =

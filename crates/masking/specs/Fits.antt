@@ -37,12 +37,3 @@ pub record Half-fits (i w : ℕ) (a b read products taken : List ℕ) : Type 0 w
   pub reads : w ≤ length read
   pub multiplies : w ≤ length products
   pub takes : w ≤ length taken
-
--- their running sums
-pub record Sums-fit (i w : ℕ) (tape back own sums : List ℕ) : Type 0 where
-  pub some : 0 < w
-  pub few : i + 1 + w ≤ 9
-  pub drawn : w ≤ length tape
-  pub backs : w ≤ length back
-  pub owns : w ≤ length own
-  pub summed : i + 1 + w ≤ length sums

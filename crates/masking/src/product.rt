@@ -22,7 +22,7 @@ pub fn product_need(d: usize) -> usize
     requires { ⌜ d ≤ 8 ⌝ }
     ensures { λ r. ⌜ r ≡ Place.product-need d ⌝ }
 {
-    d * (d + 1) / 2
+    pairs::counting::pair_count(d)
 }
 
 // Whether both factors have n shares, by their lengths.
@@ -154,7 +154,7 @@ fn product_on_words(
     ensures { λ k. ⌜ (k ≡ words-for (Place.product-need d))
         × (now (output .exit) ≡ Place.product Field.times d (now (a .entry)) (now (b .entry)) (bytes-of (now (tape .entry)))) ⌝ }
 {
-    let mut drawn = [0u8; 36];
+    let mut drawn = [0u8; pairs::counting::MOST];
     tape_words::unpack(product_need(d), tape, &mut drawn);
     tape_words::words_for(product_core(logs, antilogs, d, a, b, &drawn, output))
 }

@@ -15,11 +15,12 @@ ghost use Prim.Native.Nat.{_+_, _≤_, _<_};
 ghost use lib.Bits.{bitXor};
 ghost use lib.ListN.{length};
 ghost use Rattle.xor.specs.Lists.{at, tab};
+ghost use Rattle.xor.specs.Running.{owns};
 ghost use Rattle.gf256.specs.Tables.{Tables};
 ghost use Rattle.isw.specs.Place as Place;
 ghost use Rattle.xor.specs.Writes.{front};
 ghost use Rattle.masking.specs.Steps;
-ghost use Rattle.masking.specs.Fits.{Row-fits, Rows-fit, Half-fits, Sums-fit};
+ghost use Rattle.masking.specs.Fits.{Row-fits, Rows-fit, Half-fits};
 use gf256::Antilogs;
 use gf256::Logs;
 use gf256::table_product::table_times;
@@ -91,25 +92,6 @@ fn back_row(
     }
 }
 
-// The pairs of row i with the w shares behind it go into the running sums: the draws, which stand at the front of the tape, into that of share i,
-// whose bytes on the way are left in own; each r(j, i) of the row back into that of share j.
-fn sum_row(i: usize, w: usize, tape: &[u8], back: &[u8], own: &mut [u8], sums: &mut [u8])
-    requires { ⌜ Sums-fit i w (now tape) (now back) (now own) (now sums) ⌝ }
-    ensures { λ _. ⌜ (now (own .exit) ≡ front (Steps.owns (now (tape .entry)) (now (sums .entry)) i w) (now (own .entry)))
-        × (now (sums .exit) ≡ Steps.row-taken i w (at (now (tape .entry))) (at (now (back .entry))) (now (sums .entry))) ⌝ }
-{
-    let start = sums[i];
-    let mut s = start;
-    for m in 0..w {
-        let j = i + 1 + m;
-        let r = tape[m];
-        s = s ^ r;
-        own[m] = s;
-        sums[j] = sums[j] ^ back[m];
-    }
-    sums[i] = own[w - 1];
-}
-
 // The pairs of row i with the w shares behind it, whose draws stand at the front of the tape, and then its running sums. The bytes of each pair are
 // left over the fronts of four rows: a_i · b_j, the product above the diagonal; r(i, j) XOR a_i · b_j; a_j · b_i, the one below it; and r(j, i).
 // Answers with how many bytes were drawn.
@@ -135,12 +117,12 @@ pub fn take_row(
         × (now (half .exit) ≡ front (tab (Steps.halves (now (a .entry)) (now (b .entry)) (now (tape .entry)) i) w) (now (half .entry)))
         × (now (lower .exit) ≡ front (tab (Steps.lowers (now (a .entry)) (now (b .entry)) i) w) (now (lower .entry)))
         × (now (back .exit) ≡ front (tab (Steps.backs (now (a .entry)) (now (b .entry)) (now (tape .entry)) i) w) (now (back .entry)))
-        × (now (own .exit) ≡ front (Steps.owns (now (tape .entry)) (now (sums .entry)) i w) (now (own .entry)))
+        × (now (own .exit) ≡ front (owns (now (tape .entry)) (now (sums .entry)) i w) (now (own .entry)))
         × (now (sums .exit) ≡ Steps.pairs-taken (now (a .entry)) (now (b .entry)) (now (tape .entry)) i w (now (sums .entry))) ⌝ }
 {
     let drawn = half_row(logs, antilogs, i, w, a, b, tape, upper, half);
     back_row(logs, antilogs, i, w, a, b, half, lower, back);
-    sum_row(i, w, tape, back, own, sums);
+    pairs::rows::sum_row(i, w, tape, back, own, sums);
     drawn
 }
 

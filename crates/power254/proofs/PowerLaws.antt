@@ -2,22 +2,22 @@
 use mathlib.Core.Path.{_≡_, ap, ap₂, _∙_}
 use mathlib.Core.List.{List, _++_, map}
 use Prim.Native.Nat.{ℕ, suc, _+_, _-_, _*_, _≤_}
-use native.Mathlib.Nat.{mul-suc, mul-assoc, mul-le-mul}
 use native.Mathlib.Omega.{arith}
 use lib.ListN.{length, drop, length-map, length-drop}
 use lib.Seq.{drop-append-le}
 use Rattle.xor.specs.Additive.{Additive}
+use Rattle.xor.specs.Pairs.{pair-count}
 use Rattle.xor.specs.Sums.{joined}
+use Rattle.xor.proofs.PairsLaws.{pair-count-twice, pair-count-bound}
 use Rattle.xor.proofs.SumsLaws.{joined-map}
 use Rattle.gf256.specs.Field.{times, squared, fourth, sixteenth, inverse}
 use Rattle.gf256.proofs.ProductLaws.{times-left, times-right, squared-xor, fourth-xor, sixteenth-xor}
 use Rattle.isw.specs.Place.{product-need}
 use Rattle.isw.proofs.JoinLaws.{product-joins-all}
 use Rattle.isw.proofs.SheetLaws.{length-product, product-surplus}
-use Rattle.isw.proofs.OrderLaws.{twice-need}
-use Rattle.shares.specs.Refresh.{refreshed, refresh-need}
-use Rattle.shares.proofs.RefreshLaws.{length-refreshed, refresh-joins, refresh-need-is, refresh-surplus}
-use Rattle.power254.specs.Power254.{masked-product, stage-z, stage-y, stage-w, stage-v, stage-last, stage-need, power-254, power-need}
+use Rattle.refresh.specs.Refresh.{refreshed, refresh-need}
+use Rattle.refresh.proofs.RefreshLaws.{length-refreshed, refresh-joins, refresh-need-pairs, refresh-surplus}
+use Rattle.power254.specs.Power254.{masked-product, stage-z, stage-y, stage-w, stage-v, stage-last, stage-need, power-254, power-need, power-most}
 
 pub length-power-254 : (d : ℕ) (x ts : List ℕ) → length (power-254 d x ts) ≡ suc d
 unfolding power-254 stage-last
@@ -60,15 +60,17 @@ power-254-joins d x ts l =
 
 -- ---- the need
 
-pub power-need-is : (d : ℕ) → power-need d ≡ 2 * d * d + 4 * d
-unfolding power-need stage-need
-power-need-is d = omega (arith, refresh-need-is d, twice-need d, mul-suc d d, mul-assoc 2 d d)
+-- two refreshes and four products, and each draws a byte for each pair
+pub power-need-pairs : (d : ℕ) → power-need d ≡ 6 * pair-count (suc d)
+unfolding power-need stage-need product-need
+power-need-pairs d = omega (arith, refresh-need-pairs d)
 
-pub power-need-bound : (d : ℕ) → d ≤ 8 → power-need d ≤ 160
-power-need-bound d h =
-    let t : 2 * d ≤ 16 = omega arith in
-    let m : 2 * d * d ≤ 128 = mul-le-mul t h in
-    omega (arith, power-need-is d)
+-- as document 02 has it
+pub power-need-is : (d : ℕ) → power-need d ≡ 3 * (d * suc d)
+power-need-is d = omega (arith, power-need-pairs d, pair-count-twice d)
+
+pub power-need-bound : (d : ℕ) → d ≤ 8 → power-need d ≤ power-most
+power-need-bound d h = omega (arith, power-need-pairs d, pair-count-bound d h)
 
 -- ---- a tape that is longer than need be
 

@@ -6,7 +6,7 @@ use lib.ListN.{length, take, drop}
 use lib.Seq.{drop-drop}
 use Rattle.gf256.specs.Field.{sixteenth}
 use Rattle.isw.specs.Place.{product-need}
-use Rattle.shares.specs.Refresh.{refreshed, refresh-need}
+use Rattle.refresh.specs.Refresh.{refreshed, refresh-need}
 use Rattle.xor.proofs.WriteLaws.{part-rest}
 use Rattle.power254.specs.Power254.{masked-product, stage-z, stage-y, stage-w, stage-v, stage-last, stage-need, power-254}
 

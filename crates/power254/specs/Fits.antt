@@ -5,7 +5,7 @@ use mathlib.Core.List.{List}
 use Prim.Native.Nat.{ℕ, suc, _+_, _≤_}
 use lib.ListN.{length}
 use Rattle.isw.specs.Place.{product-need}
-use Rattle.shares.specs.Refresh.{refresh-need}
+use Rattle.refresh.specs.Refresh.{refresh-need}
 use Rattle.power254.specs.Power254.{stage-need, power-need}
 
 -- what a power, refreshed, asks: the order, the shares before and after, and the tape

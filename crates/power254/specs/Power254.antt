@@ -2,11 +2,11 @@
 -- Document 01, "The steps over shares", decides. Assumes nothing: these are definitions. A step that draws takes its bytes from the front of the tape
 -- it is given.
 use mathlib.Core.List.{List, map}
-use Prim.Native.Nat.{ℕ, _+_}
+use Prim.Native.Nat.{ℕ, _+_, _*_}
 use lib.ListN.{drop}
 use Rattle.gf256.specs.Field.{times, squared, fourth, sixteenth}
 use Rattle.isw.specs.Place.{product, product-need}
-use Rattle.shares.specs.Refresh.{refreshed, refresh-need}
+use Rattle.refresh.specs.Refresh.{refreshed, refresh-need}
 
 -- the masked product of the field
 abbrev pub masked-product : (d : ℕ) (a b tape : List ℕ) → List ℕ
@@ -48,3 +48,7 @@ power-254 d x ts =
 -- how many bytes it draws: two refreshes and four products
 unfoldable pub power-need : (d : ℕ) → ℕ
 power-need d = stage-need d + stage-need d + (product-need d + product-need d)
+
+-- the most that it draws, at order 8: for each of 36 pairs six bytes
+abbrev pub power-most : ℕ
+power-most = 6 * 36

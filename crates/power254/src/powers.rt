@@ -7,7 +7,7 @@ ghost use lib.ListN.{length, drop};
 ghost use Rattle.gf256.specs.Exponents.{raised-to};
 ghost use Rattle.gf256.specs.Tables.{Tables};
 ghost use Rattle.isw.specs.Place as Place;
-ghost use Rattle.shares.specs.Refresh as Refresh;
+ghost use Rattle.refresh.specs.Refresh as Refresh;
 ghost use Rattle.power254.specs.Power254;
 ghost use Rattle.power254.specs.Fits.{Refreshed-fits, First-fits, Last-fits, Later-fits, Power-fits};
 use gf256::Antilogs;
@@ -39,7 +39,7 @@ fn raise_refreshed(
         × (now (z .exit) ≡ Refresh.refreshed d (map (raised-to which) (now (x .entry))) (now (tape .entry))) ⌝ }
 {
     raise(logs, antilogs, which, x, z);
-    shares::refreshing::refresh_core(d, tape, z)
+    refresh::refreshing::refresh_core(d, tape, z)
 }
 
 // The first stage: z = x², refreshed, and y = z·x. Answers with how many bytes were drawn.

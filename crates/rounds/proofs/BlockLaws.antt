@@ -10,6 +10,7 @@ use Rattle.gf256.specs.declared.Direction.{Direction}
 use Rattle.gf256.specs.declared.Direction.the-variants.{Forward, Inverse}
 use Rattle.shares.specs.Strings.{Shares, Shared, parts, laid}
 use Rattle.shares.proofs.StringsLaws.{parts-laid, shared-parts}
+use Rattle.sbox.specs.Box.{box-most}
 use Rattle.sbox.proofs.BoxLaws.{box-need-bound}
 use Rattle.cipher.specs.Fips197.{rounds}
 use Rattle.cipher.specs.States.{adds}
@@ -25,9 +26,9 @@ use Rattle.rounds.proofs.RoundLaws.{state-shape}
 -- ---- the loop
 
 -- so many bytes can be counted
-pub rounds-bound : (nr d : ℕ) → nr ≤ 14 → d ≤ 8 → nr * round-need d ≤ 35840
+pub rounds-bound : (nr d : ℕ) → nr ≤ 14 → d ≤ 8 → nr * round-need d ≤ 14 * (16 * box-most)
 rounds-bound nr d h g =
-    let n : round-need d ≤ 2560 = omega (arith, round-need-is d, box-need-bound d g) in
+    let n : round-need d ≤ 16 * box-most = omega (arith, round-need-is d, box-need-bound d g) in
     mul-le-mul h n
 
 -- round i keeps the shape of the state

@@ -16,11 +16,11 @@ use Rattle.gf256.specs.Field.{inverse, linear-by, affine-by, rows, constant, af
 use Rattle.gf256.specs.Field.{inverse-rows, inverse-constant, inverse-affine, inverse-s-box}
 use Rattle.gf256.specs.Directions.{constant-of, affine-of, s-box-of}
 use Rattle.byte_maps.proofs.AffineLaws.{joined-affine-by, once-more, affine-lt}
-use Rattle.shares.specs.Refresh.{into}
-use Rattle.shares.proofs.RefreshLaws.{length-into, joined-into, into-below}
+use Rattle.refresh.specs.Refresh.{into}
+use Rattle.refresh.proofs.RefreshLaws.{length-into, joined-into, into-below}
 use Rattle.power254.specs.Power254.{power-254}
 use Rattle.power254.proofs.PowerLaws.{length-power-254, power-254-joins, power-254-surplus, power-need-is, power-need-bound}
-use Rattle.sbox.specs.Box.{corrected, affine-shares, box, inverse-box, box-of, box-need}
+use Rattle.sbox.specs.Box.{corrected, affine-shares, box, inverse-box, box-of, box-need, box-most}
 
 -- ---- lengths
 
@@ -84,10 +84,10 @@ inverse-box-joins = box-of-joins Inverse
 
 -- ---- the need
 
-pub box-need-is : (d : ℕ) → box-need d ≡ 2 * d * d + 4 * d
+pub box-need-is : (d : ℕ) → box-need d ≡ 3 * (d * suc d)
 box-need-is d = power-need-is d
 
-pub box-need-bound : (d : ℕ) → d ≤ 8 → box-need d ≤ 160
+pub box-need-bound : (d : ℕ) → d ≤ 8 → box-need d ≤ box-most
 box-need-bound d h = power-need-bound d h
 
 -- ---- the constant into share 0

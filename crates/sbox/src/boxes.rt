@@ -50,12 +50,15 @@ fn affine_shares(which: Direction, d: usize, x: &mut [u8])
     correct(which, d, x);
 }
 
-// How many bytes either S-box of order d draws.
+// The most that either S-box draws, at order 8: six bytes for each pair.
+pub const MOST: usize = 6 * pairs::counting::MOST;
+
+// How many bytes either S-box of order d draws: two refreshes and four products draw a byte for each pair.
 pub fn box_need(d: usize) -> usize
     requires { ⌜ d ≤ 8 ⌝ }
     ensures { λ r. ⌜ r ≡ Box.box-need d ⌝ }
 {
-    2 * d * d + 4 * d
+    6 * pairs::counting::pair_count(d)
 }
 
 // The S-box of the shares of a byte, in place. Answers with how many bytes were drawn.
@@ -101,7 +104,7 @@ fn box_on_words(logs: &Logs, antilogs: &Antilogs, d: usize, tape: &[u32], x: &mu
     ensures { λ r. ⌜ (r ≡ words-for (Box.box-need d))
         × (now (x .exit) ≡ Box.box d (now (x .entry)) (bytes-of (now (tape .entry)))) ⌝ }
 {
-    let mut drawn = [0u8; 160];
+    let mut drawn = [0u8; MOST];
     tape_words::unpack(box_need(d), tape, &mut drawn);
     tape_words::words_for(box_core(logs, antilogs, d, &drawn, x))
 }
@@ -120,7 +123,7 @@ pub fn masked_box(order: usize, input: &[u8], tape: &[u32], output: &mut [u8]) -
     ensures { λ r. ⌜ outcome r (now (output .exit))
         ≡ Box-outcome order (now (input .entry)) (now (tape .entry)) (now (output .entry)) ⌝ }
 {
-    let answer = shares::refreshing::byte_answer(
+    let answer = shares::answers::byte_answer(
         call_need(order),
         order,
         input.len(),

@@ -1,5 +1,4 @@
 pub mod CallsLaws
 pub mod StringsLaws
-pub mod RefreshLaws
 pub mod RoundTrip
 pub mod OnWordsLaws

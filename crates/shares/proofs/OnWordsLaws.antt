@@ -1,5 +1,5 @@
--- Calls on a tape of words are as they were on bytes: one law for every call whose tests ask for the words of its need, and its uses for splitting
--- and for the refresh. Assumes nothing.
+-- Calls on a tape of words are as they were on bytes: one law for every call whose tests ask for the words of its need, and its use for splitting.
+-- Assumes nothing.
 use mathlib.Core.Path.{_≡_, sym, ap, ap₂, _∙_, subst}
 use mathlib.Core.Bool.{true}
 use mathlib.Core.List.{List, _++_}
@@ -14,12 +14,10 @@ use Rattle.outcomes.proofs.LengthsLaws.{share-length-is}
 use Rattle.tape_words.specs.Words.{bytes-of, words-for, Same-front}
 use Rattle.tape_words.proofs.FrontLaws.{same-front-same, words-surplus}
 use Rattle.shares.specs.Strings.{laid, split, split-need}
-use Rattle.shares.specs.Refresh.{refreshed, refresh-need}
-use Rattle.shares.specs.Calls.{Split-tests, Split-outcome, Byte-tests, Refresh-outcome}
+use Rattle.shares.specs.Calls.{Split-tests, Split-outcome, Byte-tests}
 use Rattle.shares.specs.OnWords.{As-on-bytes}
-use Rattle.shares.proofs.CallsLaws.{split-passed, byte-passed}
+use Rattle.shares.proofs.CallsLaws.{split-passed}
 use Rattle.shares.proofs.StringsLaws.{split-surplus}
-use Rattle.shares.proofs.RefreshLaws.{refresh-surplus}
 
 -- a longer tape reaches as well
 pub longer-reaches : (n t t′ : ℕ) → t ≤ t′ → reaches t n ≡ true → reaches t′ n ≡ true
@@ -62,10 +60,3 @@ split-words d xs o =
 -- a call on the shares of one byte
 pub byte-longer : (need d x o t t′ : ℕ) → t ≤ t′ → Passed (Byte-tests need d x t o) → Passed (Byte-tests need d x t′ o)
 byte-longer need d x o t t′ h (u and i and r and n and p) = u and i and r and longer-reaches need t t′ h n and p
-
--- the refresh
-pub refresh-words : (d : ℕ) (xs o : List ℕ) → As-on-bytes (refresh-need d) (refreshed d xs) (λ ws. Refresh-outcome d xs ws o)
-unfolding Refresh-outcome
-refresh-words d xs o =
-    on-words (λ t. Byte-tests (words-for (refresh-need d)) d (length xs) t (length o)) (refresh-need d) o (refreshed d xs)
-    (λ t p. byte-passed _ d (length xs) t (length o) p .drawn) (byte-longer _ d (length xs) (length o)) (λ t p. refresh-surplus d xs)

@@ -10,12 +10,13 @@ use lib.ListN.{length, take, drop, set, length-set, length-drop}
 use lib.Seq.{getD-set-same, getD-set-other, getD-take, getD-drop, length-take-le}
 use Rattle.xor.specs.Lists.{at, runs, tab}
 use Rattle.xor.specs.Pairs.{before-row}
+use Rattle.xor.specs.Running.{running, owns}
 use Rattle.xor.proofs.ListsLaws.{runs-cong, tab-cong, tab-at, length-runs, length-tab, map-runs, map-tab}
 use Rattle.gf256.specs.Field.{times}
-use Rattle.isw.specs.Place.{part, running, byte, row-places, drawn}
+use Rattle.isw.specs.Place.{part, byte, row-places, drawn}
 use Rattle.xor.specs.Writes.{front}
 use Rattle.xor.proofs.WriteLaws.{at-front}
-use Rattle.masking.specs.Steps.{starts, owns, pairs-taken}
+use Rattle.masking.specs.Steps.{starts, pairs-taken}
 use Rattle.sheet_parts.specs.Parts.{sums-before, starts-put, row-put, table-rows}
 use Rattle.masking.proofs.SumsLaws.{start-sum, sum-of, Sums, sums-start, row-own-next, row-taken-sums}
 

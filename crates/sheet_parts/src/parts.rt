@@ -4,8 +4,8 @@ ghost use mathlib.Core.Path.{_≡_};
 ghost use Prim.Native.Nat.{_+_, _*_, _≤_};
 ghost use lib.ListN.{length};
 ghost use Rattle.xor.specs.Lists.{at};
+ghost use Rattle.xor.specs.Running.{running, owns};
 ghost use Rattle.gf256.specs.Tables.{Tables};
-ghost use Rattle.isw.specs.Place as Place;
 ghost use Rattle.xor.specs.Writes.{front};
 ghost use Rattle.masking.specs.Steps as Steps;
 ghost use Rattle.masking.specs.Fits.{Row-fits, Rows-fit};
@@ -95,7 +95,7 @@ fn pairs_row(
 ) -> usize
     requires { ⌜ Pairs-fit i w (now a) (now b) (now tape) (now own) (now sums) (now out) × Tables (now logs) (now antilogs) ⌝ }
     ensures { λ k. ⌜ (k ≡ w) × (now (out .exit) ≡ front (row-bytes (now (a .entry)) (now (b .entry)) (now (tape .entry)) i w) (now (out .entry)))
-        × (now (own .exit) ≡ front (Steps.owns (now (tape .entry)) (now (sums .entry)) i w) (now (own .entry)))
+        × (now (own .exit) ≡ front (owns (now (tape .entry)) (now (sums .entry)) i w) (now (own .entry)))
         × (now (sums .exit) ≡ Steps.pairs-taken (now (a .entry)) (now (b .entry)) (now (tape .entry)) i w (now (sums .entry))) ⌝ }
 {
     let mut upper = [0u8; 8];
@@ -140,7 +140,7 @@ pub fn sheet_row(
         × (now (out .exit) ≡ front (row-bytes (now (a .entry)) (now (b .entry)) (now (tape .entry)) i w) (now (out .entry)))
         × (now (sums .exit) ≡ Steps.pairs-taken (now (a .entry)) (now (b .entry)) (now (tape .entry)) i w (now (sums .entry)))
         × (now (table .exit)
-        ≡ row-put i (λ m. Place.running (at (now (sums .entry)) i) (at (now (tape .entry))) (m + 1))
+        ≡ row-put i (λ m. running (at (now (sums .entry)) i) (at (now (tape .entry))) (m + 1))
         (at (now (sums .exit))) (now (table .entry)) w) ⌝ }
 {
     let mut own = [0u8; 8];

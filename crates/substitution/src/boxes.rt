@@ -64,7 +64,7 @@ fn sub_spaced(
     at
 }
 
-// The same on a tape of words, at most 160. Answers with how many words were drawn.
+// The same on a tape of words. Answers with how many words were drawn.
 fn sub_four(
     logs: &Logs,
     antilogs: &Antilogs,
@@ -80,7 +80,7 @@ fn sub_four(
     ensures { λ r. ⌜ (4 * r ≡ subs-need d (spaced first stride))
         × (now (s .exit) ≡ laid (subs-of which d (spaced first stride) (parts (suc d) l (now (s .entry))) (bytes-of (now (tape .entry))))) ⌝ }
 {
-    let mut drawn = [0u8; 640];
+    let mut drawn = [0u8; 4 * sbox::boxes::MOST];
     tape_words::unpack(4 * sbox::boxes::box_need(d), tape, &mut drawn);
     sub_spaced(logs, antilogs, which, d, l, first, stride, &drawn, s) / 4
 }

@@ -2,7 +2,7 @@
 use mathlib.Core.Path.{_≡_, refl, sym, ap, _∙_}
 use mathlib.Core.List.{List}
 use Prim.Native.Nat.{ℕ, zero, suc, _+_, _-_, _*_, _/_, _≤_, _<_}
-use native.Mathlib.Nat.{mul-add, one-mul}
+use native.Mathlib.Nat.{mul-add, one-mul, mul-le-mul}
 use native.Mathlib.Omega.{arith}
 use native.Mathlib.Numerals.{add-one}
 use lib.ListN.{length, getD, length-append}
@@ -46,6 +46,19 @@ pair-count-twice d = omega (arith, before-row-twice (suc d) (suc d) (omega arith
 pub pair-count-is : (d : ℕ) → pair-count (suc d) ≡ d * suc d / 2
 pair-count-is d = omega (arith, pair-count-twice d)
 
+pub pair-count-bound : (d : ℕ) → d ≤ 8 → pair-count (suc d) ≤ 36
+pair-count-bound d h =
+    let n : suc d ≤ 9 = omega arith in
+    omega (arith, pair-count-is d, mul-le-mul h n)
+
+-- row i of the pairs of d + 1 numbers, whose entries stand in a list from k on: what it counts
+pub row-counts : (d i k : ℕ) → i < d → k ≡ before-row (suc d) i
+    → (i + 1 ≤ d) × (k + (d - i) ≡ before-row (suc d) (i + 1)) × (before-row (suc d) (i + 1) ≤ pair-count (suc d)) × (suc d ≡ i + 1 + (d - i))
+row-counts d i k h e =
+    let x = before-row-next (suc d) i in
+    let u = before-row-le (suc d) i (omega arith) in
+    (omega arith, omega arith, u, omega arith)
+
 -- ---- where each stands
 
 pub draw-index-lt : (n i j : ℕ) → i < j → j < n → draw-index n i j < pair-count n
@@ -66,7 +79,7 @@ module _ {A : Type 0} where
     abbrev row : (i : ℕ) → List A
     row i = tab (λ m. f i (suc i + m)) (n - suc i)
 
-    length-before : (i : ℕ) → length (runs row i) ≡ before-row n i
+    pub length-before : (i : ℕ) → length (runs row i) ≡ before-row n i
     length-before i = length-rows n 1 row (λ i. length-tab (λ m. f i (suc i + m)) (n - suc i) ∙ omega arith) i ∙ one-mul (before-row n i)
 
     pub length-each-pair : length (each-pair n f) ≡ pair-count n

@@ -73,7 +73,7 @@ returns c =
     let k = at-back-row .back-row .ensures in
     let s = at-sum-row .sum-row .ensures in
     let r = backs-right a b ts (v .i) (v .w) _ _ _ (now (v .back)) (h .2) (k .1) in
-    (h .0, h .1, h .2, k .0, r, s .0, row-taken-backs a b ts (v .i) (v .w) (now (v .sums)) _ _ (now (v .back)) r (s .1))
+    (h .0, h .1, h .2, k .0, r, s .1, row-taken-backs a b ts (v .i) (v .w) (now (v .sums)) _ _ (now (v .back)) r (s .2))
 
 pub take-row-spec : {M : Type 1} → statement M
 take-row-spec =

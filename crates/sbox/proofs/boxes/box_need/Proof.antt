@@ -1,33 +1,23 @@
 -- `sbox::boxes::box_need` meets its contract. Assumes nothing.
-use mathlib.Core.Path.{sym}
-use Prim.Native.Nat.{_≤_, _*_}
-use native.Mathlib.Nat.{mul-le-mul}
+use mathlib.Core.Path.{sym, ap, _∙_}
+use Prim.Native.Nat.{_*_}
 use native.Mathlib.Omega.{arith}
 use borrow.Author.Needs.{needs}
-use Rattle.sbox.proofs.BoxLaws.{box-need-is}
+use Rattle.xor.proofs.PairsLaws.{pair-count-bound}
+use Rattle.power254.proofs.PowerLaws.{power-need-pairs}
 use Rattle.sbox.proofs.boxes.box_need.Statement.{statement}
 use Rattle.sbox.proofs.boxes.box_need.Tie as tie
 
+pair-count-requires : tie.Need-pair-count-requires
+pair-count-requires c κs = search needs
+
 mul-result : tie.Need-mul-result
-mul-result c = search needs
-
-mul-result-2 : tie.Need-mul-result-2
-mul-result-2 c =
-    let h : 2 * c .args .d ≤ 16 = omega arith in
-    let m : 2 * c .args .d * c .args .d ≤ 128 = mul-le-mul h (c .pre) in
-    omega arith
-
-mul-result-3 : tie.Need-mul-result-3
-mul-result-3 c = search needs
-
-add-result : tie.Need-add-result
-add-result c =
-    let h : 2 * c .args .d ≤ 16 = omega arith in
-    let m : 2 * c .args .d * c .args .d ≤ 128 = mul-le-mul h (c .pre) in
-    omega arith
+mul-result c =
+    let start = c .before in
+    omega (arith, c .pair-count .ensures, pair-count-bound (start .args .d) (start .pre))
 
 returns : tie.Need-returns
-returns c = sym (box-need-is (c .args .d))
+returns c = ap (_*_ 6) (c .pair-count .ensures) ∙ sym (power-need-pairs _)
 
 pub box-need-spec : {M : Type 1} → statement M
-box-need-spec = tie.close (tie.spec mul-result mul-result-2 mul-result-3 add-result returns)
+box-need-spec = tie.close (tie.spec pair-count-requires mul-result returns)

@@ -23,7 +23,7 @@ unpack-requires c κs =
     let start = c .before .before .before .before in
     let v = start .args in
     let fit = start .pre .0 in
-    unpack-fits _ (box-need (v .d)) 40 (now (v .tape)) (c .before .box-need .ensures) (reach-words _ (now (v .tape)) (fit .drawn))
+    unpack-fits _ (box-need (v .d)) 54 (now (v .tape)) (c .before .box-need .ensures) (reach-words _ (now (v .tape)) (fit .drawn))
     (box-need-bound (v .d) (fit .order))
 
 slice-aggregate-box-core : tie.Need-slice-aggregate-box-core

@@ -38,7 +38,7 @@ unpack-requires c κs =
     let fit = start .pre .0 in
     let need = need-is (a .d) (a .first) (a .stride) _ (c .before .box-need .ensures) in
     let bound = box-need-bound (a .d) (fit .order) in
-    unpack-fits _ _ 160 (now (a .tape)) need (reach-words _ (now (a .tape)) (fit .drawn))
+    unpack-fits _ _ 216 (now (a .tape)) need (reach-words _ (now (a .tape)) (fit .drawn))
     (omega (arith, bound, spaced-need (a .d) (a .first) (a .stride)))
 
 slice-aggregate-sub-spaced : tie.Need-slice-aggregate-sub-spaced

@@ -1,0 +1,2 @@
+pub mod RefreshLaws
+pub mod OnWords
