@@ -1,11 +1,9 @@
 // Mask refresh: one byte is drawn for each pair of shares, and XORed into both. Document 02, wish 7, decides.
 ghost use mathlib.Core.Path.{_≡_};
-ghost use mathlib.Core.Bool.{true};
 ghost use Prim.Native.Nat.{_+_, _≤_, _<_};
 ghost use lib.ListN.{length};
 ghost use Rattle.xor.specs.Lists.{at};
 ghost use Rattle.xor.specs.Running.{row-taken};
-ghost use Rattle.outcomes.specs.Outcome as Outcome;
 ghost use Rattle.outcomes.specs.Outcome.{outcome};
 ghost use Rattle.tape_words.specs.Words.{bytes-of, words-for};
 ghost use Rattle.refresh.specs.Refresh;
@@ -55,27 +53,11 @@ fn refresh_on_words(d: usize, tape: &[u32], x: &mut [u8]) -> usize
     tape_words::words_for(refresh_core(d, &drawn, x))
 }
 
-// How many words a call at that order draws, and 0 where the order is not served.
-fn call_need(order: usize) -> usize
-    ensures { λ r. ⌜ (Outcome.served order ≡ true → r ≡ words-for (Refresh.refresh-need order)) ⌝ }
-{
-    if outcomes::asked::served(order) {
-        return tape_words::words_for(refresh_need(order));
-    }
-    0
-}
-
 pub fn refresh(order: usize, input: &[u8], tape: &[u32], output: &mut [u8]) -> Answer
     ensures { λ r. ⌜ outcome r (now (output .exit))
         ≡ Refresh-outcome order (now (input .entry)) (now (tape .entry)) (now (output .entry)) ⌝ }
 {
-    let answer = shares::answers::byte_answer(
-        call_need(order),
-        order,
-        input.len(),
-        tape.len(),
-        output.len(),
-    );
+    let answer = shares::answers::byte_answer(1, order, input.len(), tape.len(), output.len());
     let Answer::Taken(_) = answer else {
         return answer;
     };

@@ -1,13 +1,11 @@
 // The masked S-box: power 254, then the affine map over shares. The masked inverse S-box: the inverse affine map over shares, then power 254.
 ghost use mathlib.Core.Path.{_≡_};
-ghost use mathlib.Core.Bool.{true};
 ghost use mathlib.Core.List.{map};
 ghost use Prim.Native.Nat.{_%_, _≤_, _<_};
 ghost use lib.ListN.{length};
 ghost use Rattle.gf256.specs.Directions.{affine-of, constant-of};
 ghost use Rattle.gf256.specs.Tables.{Tables};
 ghost use Rattle.tape_words.specs.Words.{bytes-of, words-for};
-ghost use Rattle.outcomes.specs.Outcome as Outcome;
 ghost use Rattle.outcomes.specs.Outcome.{outcome};
 ghost use Rattle.sbox.specs.Box;
 ghost use Rattle.power254.specs.Fits.{Power-fits};
@@ -109,27 +107,11 @@ fn box_on_words(logs: &Logs, antilogs: &Antilogs, d: usize, tape: &[u32], x: &mu
     tape_words::words_for(box_core(logs, antilogs, d, &drawn, x))
 }
 
-// How many words a call at that order draws, and 0 where the order is not served.
-fn call_need(order: usize) -> usize
-    ensures { λ r. ⌜ (Outcome.served order ≡ true → r ≡ words-for (Box.box-need order)) ⌝ }
-{
-    if outcomes::asked::served(order) {
-        return tape_words::words_for(box_need(order));
-    }
-    0
-}
-
 pub fn masked_box(order: usize, input: &[u8], tape: &[u32], output: &mut [u8]) -> Answer
     ensures { λ r. ⌜ outcome r (now (output .exit))
         ≡ Box-outcome order (now (input .entry)) (now (tape .entry)) (now (output .entry)) ⌝ }
 {
-    let answer = shares::answers::byte_answer(
-        call_need(order),
-        order,
-        input.len(),
-        tape.len(),
-        output.len(),
-    );
+    let answer = shares::answers::byte_answer(6, order, input.len(), tape.len(), output.len());
     let Answer::Taken(_) = answer else {
         return answer;
     };

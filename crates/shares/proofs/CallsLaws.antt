@@ -1,6 +1,5 @@
 -- What is known of a call that its tests let through, by the names of the tests. Assumes nothing.
-use mathlib.Core.Path.{_≡_, refl, sym, ap, _∙_}
-use mathlib.Core.Bool.{Bool, true, false}
+use mathlib.Core.Path.{_≡_, sym, ap, _∙_}
 use mathlib.Core.List.{List, [], _∷_}
 use Prim.Native.Nat.{ℕ, suc, _*_, _≤_, _<_}
 use lib.Dec.{ltb, eqb}
@@ -13,18 +12,14 @@ use Rattle.outcomes.specs.Outcome.{Test, test, answered, took, served, reaches,
 use Rattle.tape_words.specs.Words.{words-for}
 use Rattle.shares.specs.Strings.{split-need}
 use Rattle.shares.specs.Calls.{Byte-tests, Split-tests, Join-tests}
-use Rattle.outcomes.proofs.OutcomeLaws.{Passed, _and_, answered-here, answered-taken, served-bounds, reaches-le}
+use Rattle.outcomes.proofs.OutcomeLaws.{Passed, _and_, answered-taken, served-bounds, reaches-le}
 
 -- ---- the shares of one byte
 
--- the need counts only where the order is served
-pub byte-answered : (need′ need d x t o : ℕ) (a : Answer) → (served d ≡ true → need′ ≡ need)
+-- by the call's own need
+pub byte-answered : (need′ need d x t o : ℕ) (a : Answer) → need′ ≡ need
     → a ≡ answered (Byte-tests need′ d x t o) (took need′) → a ≡ answered (Byte-tests need d x t o) (took need)
-byte-answered need′ need d x t o a same e = e ∙ go (served d) refl
-  where
-    go : (u : Bool) → served d ≡ u → answered (Byte-tests need′ d x t o) (took need′) ≡ answered (Byte-tests need d x t o) (took need)
-    go true p = ap (λ (n : ℕ). answered (Byte-tests n d x t o) (took n)) (same p)
-    go false p = sym (answered-here Order (served d) _ (took need′) p) ∙ answered-here Order (served d) _ (took need) p
+byte-answered need′ need d x t o a same e = e ∙ ap (λ (n : ℕ). answered (Byte-tests n d x t o) (took n)) same
 
 pub record Byte-through (need d x t o : ℕ) : Type 0 where
   pub order : d ≤ 8

@@ -7,11 +7,10 @@ use Prim.Native.Nat.{ℕ, _≤_}
 use native.Mathlib.Nat.{one-mul}
 use native.Mathlib.Omega.{arith}
 use lib.ListN.{length, length-append}
-use Rattle.outcomes.specs.declared.Count.{Count}
 use Rattle.outcomes.specs.Outcome.{Test, done, took, settled, reaches, share-length}
 use Rattle.outcomes.proofs.OutcomeLaws.{Passed, _and_, settled-taken, settled-passed, le-reaches, reaches-le}
 use Rattle.outcomes.proofs.LengthsLaws.{share-length-is}
-use Rattle.tape_words.specs.Words.{bytes-of, words-for, Same-front}
+use Rattle.tape_words.specs.Words.{bytes-of, words-for}
 use Rattle.tape_words.proofs.FrontLaws.{same-front-same, words-surplus}
 use Rattle.shares.specs.Strings.{laid, split, split-need}
 use Rattle.shares.specs.Calls.{Split-tests, Split-outcome, Byte-tests}

@@ -1,23 +1,31 @@
 -- `refresh::refreshing::refresh` meets its contract. Assumes nothing.
 use mathlib.Core.List.{List}
-use mathlib.Core.Path.{ap, sym, _∙_}
-use Prim.Native.Nat.{ℕ}
+use mathlib.Core.Path.{_≡_, ap, sym, _∙_}
+use Prim.Native.Nat.{ℕ, suc, _*_}
+use native.Mathlib.Nat.{one-mul}
 use native.Mathlib.Omega.{arith}
 use borrow.Author.Needs.{needs}
 use denote.Ref.{now}
 use lib.ListN.{length}
-use Rattle.outcomes.specs.Outcome.{took}
+use Rattle.xor.specs.Pairs.{pair-count}
+use Rattle.outcomes.specs.declared.Answer.{Answer}
+use Rattle.outcomes.specs.Outcome.{answered, took}
 use Rattle.outcomes.proofs.OutcomeLaws.{settled-refused, settled-done}
 use Rattle.tape_words.specs.Words.{bytes-of, words-for}
+use Rattle.shares.specs.Calls.{Byte-tests}
 use Rattle.shares.proofs.CallsLaws.{byte-answered, byte-through}
 use Rattle.xor.proofs.WriteLaws.{front-all}
 use Rattle.refresh.specs.Calls.{Refresh-outcome}
 use Rattle.refresh.specs.Refresh.{refreshed, refresh-need}
+use Rattle.refresh.proofs.RefreshLaws.{refresh-need-pairs}
 use Rattle.refresh.proofs.refreshing.refresh.Statement.{statement}
 use Rattle.refresh.proofs.refreshing.refresh.Tie as tie
 
-call-need-requires : tie.Need-call-need-requires
-call-need-requires c κs = search needs
+-- what the tests answer, by the refresh's own need
+asked : (d x t o : ℕ) (a : Answer)
+    → a ≡ answered (Byte-tests (words-for (1 * pair-count (suc d))) d x t o) (took (words-for (1 * pair-count (suc d))))
+    → a ≡ answered (Byte-tests (words-for (refresh-need d)) d x t o) (took (words-for (refresh-need d)))
+asked d x t o a = byte-answered _ _ d x t o a (ap words-for (one-mul _ ∙ sym (refresh-need-pairs d)))
 
 byte-answer-requires : tie.Need-byte-answer-requires
 byte-answer-requires c κs = search needs
@@ -32,19 +40,17 @@ returns : tie.Need-returns
 unfolding Refresh-outcome
 returns c =
     let q = c .before .before in
-    let v = q .before .before .before .before .before .args in
-    let e = byte-answered _ _ (v .order) (length (now (v .input))) (length (now (v .tape))) (length (now (v .output))) _
-    (q .before .call-need .ensures) (q .byte-answer .ensures)
-    in
+    let v = q .before .before .before .before .args in
+    let e = asked (v .order) (length (now (v .input))) (length (now (v .tape))) (length (now (v .output))) _ (q .byte-answer .ensures) in
     settled-refused _ _ _ _ _ e _ (c .enum-told2 .given .1)
 
 put-requires : tie.Need-put-requires
 put-requires c κs =
     let told = c .before in
     let q = told .before .before in
-    let v = q .before .before .before .before .before .args in
-    let h = byte-through (q .before .call-need .result) (v .order) (length (now (v .input))) (length (now (v .tape))) (length (now (v .output))) _
-    _ (q .byte-answer .ensures) (told .enum-told .given .1) in
+    let v = q .before .before .before .before .args in
+    let e = asked (v .order) (length (now (v .input))) (length (now (v .tape))) (length (now (v .output))) _ (q .byte-answer .ensures) in
+    let h = byte-through _ (v .order) (length (now (v .input))) (length (now (v .tape))) (length (now (v .output))) _ _ e (told .enum-told .given .1) in
     omega (arith, h .input, h .output)
 
 refresh-on-words-requires : tie.Need-refresh-on-words-requires
@@ -52,12 +58,9 @@ refresh-on-words-requires c κs =
     let put = c .before .before .before in
     let told = put .before .before in
     let q = told .before .before in
-    let v = q .before .before .before .before .before .args in
-    let e = byte-answered _ _ (v .order) (length (now (v .input))) (length (now (v .tape))) (length (now (v .output))) _
-    (q .before .call-need .ensures) (q .byte-answer .ensures)
-    in
-    let h = byte-through (words-for (refresh-need (v .order))) (v .order) (length (now (v .input))) (length (now (v .tape)))
-    (length (now (v .output))) _ _ e (told .enum-told .given .1) in
+    let v = q .before .before .before .before .args in
+    let e = asked (v .order) (length (now (v .input))) (length (now (v .tape))) (length (now (v .output))) _ (q .byte-answer .ensures) in
+    let h = byte-through _ (v .order) (length (now (v .input))) (length (now (v .tape))) (length (now (v .output))) _ _ e (told .enum-told .given .1) in
     let l = put .put .kept .1 .0 in
     (h .order, omega (arith, h .output, l), h .drawn)
 
@@ -71,12 +74,9 @@ returns-2 c =
     let put = core .before .before .before .before in
     let told = put .before .before in
     let q = told .before .before in
-    let v = q .before .before .before .before .before .args in
-    let e = byte-answered _ _ (v .order) (length (now (v .input))) (length (now (v .tape))) (length (now (v .output))) _
-    (q .before .call-need .ensures) (q .byte-answer .ensures)
-    in
-    let h = byte-through (q .before .call-need .result) (v .order) (length (now (v .input))) (length (now (v .tape))) (length (now (v .output))) _
-    _ (q .byte-answer .ensures) (told .enum-told .given .1) in
+    let v = q .before .before .before .before .args in
+    let e = asked (v .order) (length (now (v .input))) (length (now (v .tape))) (length (now (v .output))) _ (q .byte-answer .ensures) in
+    let h = byte-through _ (v .order) (length (now (v .input))) (length (now (v .tape))) (length (now (v .output))) _ _ e (told .enum-told .given .1) in
     let m = put .put .ensures ∙ front-all (now (v .input)) (now (v .output)) (h .input ∙ sym (h .output)) in
     let p = core .refresh-on-words .ensures in
     settled-done _ _ _ _ _ e _ _ _ (told .enum-told .given .1) (ap took (p .0))
@@ -86,7 +86,6 @@ pub refresh-spec : {M : Type 1} → statement M
 refresh-spec =
     tie.close
     (tie.spec
-    call-need-requires
     byte-answer-requires
     enum-told
     enum-told-2

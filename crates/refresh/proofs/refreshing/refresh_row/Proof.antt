@@ -1,5 +1,4 @@
 -- `refresh::refreshing::refresh_row` meets its contract. Assumes nothing.
-use Rattle.pairs.specs.Fits.{Sums-fit}
 use native.Mathlib.Omega.{arith}
 use borrow.Author.Needs.{needs}
 use Rattle.refresh.proofs.refreshing.refresh_row.Statement.{statement}
