@@ -16,10 +16,11 @@ use Rattle.outcomes.proofs.OutcomeLaws.{Passed, _and_, answered-taken, served-b
 
 -- ---- the shares of one byte
 
--- by the call's own need
-pub byte-answered : (need′ need d x t o : ℕ) (a : Answer) → need′ ≡ need
-    → a ≡ answered (Byte-tests need′ d x t o) (took need′) → a ≡ answered (Byte-tests need d x t o) (took need)
-byte-answered need′ need d x t o a same e = e ∙ ap (λ (n : ℕ). answered (Byte-tests n d x t o) (took n)) same
+-- what the tests of a call answer, by its own need
+pub byte-answered : {bytes : ℕ} (need d x t o : ℕ) (a : Answer) → bytes ≡ need
+    → a ≡ answered (Byte-tests (words-for bytes) d x t o) (took (words-for bytes))
+    → a ≡ answered (Byte-tests (words-for need) d x t o) (took (words-for need))
+byte-answered need d x t o a same e = e ∙ ap (λ (n : ℕ). answered (Byte-tests (words-for n) d x t o) (took (words-for n))) same
 
 pub record Byte-through (need d x t o : ℕ) : Type 0 where
   pub order : d ≤ 8

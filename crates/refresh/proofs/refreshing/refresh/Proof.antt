@@ -1,18 +1,15 @@
 -- `refresh::refreshing::refresh` meets its contract. Assumes nothing.
 use mathlib.Core.List.{List}
-use mathlib.Core.Path.{_≡_, ap, sym, _∙_}
-use Prim.Native.Nat.{ℕ, suc, _*_}
+use mathlib.Core.Path.{ap, sym, _∙_}
+use Prim.Native.Nat.{ℕ}
 use native.Mathlib.Nat.{one-mul}
 use native.Mathlib.Omega.{arith}
 use borrow.Author.Needs.{needs}
 use denote.Ref.{now}
 use lib.ListN.{length}
-use Rattle.xor.specs.Pairs.{pair-count}
-use Rattle.outcomes.specs.declared.Answer.{Answer}
-use Rattle.outcomes.specs.Outcome.{answered, took}
+use Rattle.outcomes.specs.Outcome.{took}
 use Rattle.outcomes.proofs.OutcomeLaws.{settled-refused, settled-done}
-use Rattle.tape_words.specs.Words.{bytes-of, words-for}
-use Rattle.shares.specs.Calls.{Byte-tests}
+use Rattle.tape_words.specs.Words.{bytes-of}
 use Rattle.shares.proofs.CallsLaws.{byte-answered, byte-through}
 use Rattle.xor.proofs.WriteLaws.{front-all}
 use Rattle.refresh.specs.Calls.{Refresh-outcome}
@@ -20,12 +17,6 @@ use Rattle.refresh.specs.Refresh.{refreshed, refresh-need}
 use Rattle.refresh.proofs.RefreshLaws.{refresh-need-pairs}
 use Rattle.refresh.proofs.refreshing.refresh.Statement.{statement}
 use Rattle.refresh.proofs.refreshing.refresh.Tie as tie
-
--- what the tests answer, by the refresh's own need
-asked : (d x t o : ℕ) (a : Answer)
-    → a ≡ answered (Byte-tests (words-for (1 * pair-count (suc d))) d x t o) (took (words-for (1 * pair-count (suc d))))
-    → a ≡ answered (Byte-tests (words-for (refresh-need d)) d x t o) (took (words-for (refresh-need d)))
-asked d x t o a = byte-answered _ _ d x t o a (ap words-for (one-mul _ ∙ sym (refresh-need-pairs d)))
 
 byte-answer-requires : tie.Need-byte-answer-requires
 byte-answer-requires c κs = search needs
@@ -41,7 +32,8 @@ unfolding Refresh-outcome
 returns c =
     let q = c .before .before in
     let v = q .before .before .before .before .args in
-    let e = asked (v .order) (length (now (v .input))) (length (now (v .tape))) (length (now (v .output))) _ (q .byte-answer .ensures) in
+    let e = byte-answered (refresh-need (v .order)) (v .order) (length (now (v .input))) (length (now (v .tape))) (length (now (v .output))) _
+    (one-mul _ ∙ sym (refresh-need-pairs (v .order))) (q .byte-answer .ensures) in
     settled-refused _ _ _ _ _ e _ (c .enum-told2 .given .1)
 
 put-requires : tie.Need-put-requires
@@ -49,7 +41,8 @@ put-requires c κs =
     let told = c .before in
     let q = told .before .before in
     let v = q .before .before .before .before .args in
-    let e = asked (v .order) (length (now (v .input))) (length (now (v .tape))) (length (now (v .output))) _ (q .byte-answer .ensures) in
+    let e = byte-answered (refresh-need (v .order)) (v .order) (length (now (v .input))) (length (now (v .tape))) (length (now (v .output))) _
+    (one-mul _ ∙ sym (refresh-need-pairs (v .order))) (q .byte-answer .ensures) in
     let h = byte-through _ (v .order) (length (now (v .input))) (length (now (v .tape))) (length (now (v .output))) _ _ e (told .enum-told .given .1) in
     omega (arith, h .input, h .output)
 
@@ -59,7 +52,8 @@ refresh-on-words-requires c κs =
     let told = put .before .before in
     let q = told .before .before in
     let v = q .before .before .before .before .args in
-    let e = asked (v .order) (length (now (v .input))) (length (now (v .tape))) (length (now (v .output))) _ (q .byte-answer .ensures) in
+    let e = byte-answered (refresh-need (v .order)) (v .order) (length (now (v .input))) (length (now (v .tape))) (length (now (v .output))) _
+    (one-mul _ ∙ sym (refresh-need-pairs (v .order))) (q .byte-answer .ensures) in
     let h = byte-through _ (v .order) (length (now (v .input))) (length (now (v .tape))) (length (now (v .output))) _ _ e (told .enum-told .given .1) in
     let l = put .put .kept .1 .0 in
     (h .order, omega (arith, h .output, l), h .drawn)
@@ -75,7 +69,8 @@ returns-2 c =
     let told = put .before .before in
     let q = told .before .before in
     let v = q .before .before .before .before .args in
-    let e = asked (v .order) (length (now (v .input))) (length (now (v .tape))) (length (now (v .output))) _ (q .byte-answer .ensures) in
+    let e = byte-answered (refresh-need (v .order)) (v .order) (length (now (v .input))) (length (now (v .tape))) (length (now (v .output))) _
+    (one-mul _ ∙ sym (refresh-need-pairs (v .order))) (q .byte-answer .ensures) in
     let h = byte-through _ (v .order) (length (now (v .input))) (length (now (v .tape))) (length (now (v .output))) _ _ e (told .enum-told .given .1) in
     let m = put .put .ensures ∙ front-all (now (v .input)) (now (v .output)) (h .input ∙ sym (h .output)) in
     let p = core .refresh-on-words .ensures in

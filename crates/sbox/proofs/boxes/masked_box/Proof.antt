@@ -1,32 +1,23 @@
 -- `sbox::boxes::masked_box` meets its contract. Assumes nothing.
-use mathlib.Core.Path.{_≡_, ap, sym, _∙_}
+use mathlib.Core.Path.{ap, sym, _∙_}
 use mathlib.Core.List.{List}
-use Prim.Native.Nat.{ℕ, suc, _*_}
+use Prim.Native.Nat.{ℕ}
 use native.Mathlib.Omega.{arith}
 use borrow.Author.Needs.{needs}
 use denote.Ref.{now}
 use lib.ListN.{length}
 use Rattle.gf256.specs.Tables.{lent}
-use Rattle.xor.specs.Pairs.{pair-count}
-use Rattle.outcomes.specs.declared.Answer.{Answer}
-use Rattle.outcomes.specs.Outcome.{answered, took}
+use Rattle.outcomes.specs.Outcome.{took}
 use Rattle.outcomes.proofs.OutcomeLaws.{settled-refused, settled-done}
-use Rattle.shares.specs.Calls.{Byte-tests}
 use Rattle.shares.proofs.CallsLaws.{byte-answered, byte-through}
 use Rattle.xor.proofs.WriteLaws.{front-all}
-use Rattle.tape_words.specs.Words.{bytes-of, words-for}
+use Rattle.tape_words.specs.Words.{bytes-of}
 use Rattle.tape_words.proofs.WordsLaws.{words-reach}
 use Rattle.power254.proofs.PowerLaws.{power-need-pairs}
 use Rattle.sbox.specs.Box.{box, box-need}
 use Rattle.sbox.specs.Calls.{Box-outcome}
 use Rattle.sbox.proofs.boxes.masked_box.Statement.{statement}
 use Rattle.sbox.proofs.boxes.masked_box.Tie as tie
-
--- what the tests answer, by the S-box's own need
-asked : (d x t o : ℕ) (a : Answer)
-    → a ≡ answered (Byte-tests (words-for (6 * pair-count (suc d))) d x t o) (took (words-for (6 * pair-count (suc d))))
-    → a ≡ answered (Byte-tests (words-for (box-need d)) d x t o) (took (words-for (box-need d)))
-asked d x t o a = byte-answered _ _ d x t o a (ap words-for (sym (power-need-pairs d)))
 
 byte-answer-requires : tie.Need-byte-answer-requires
 byte-answer-requires c κs = search needs
@@ -42,7 +33,8 @@ unfolding Box-outcome
 returns c =
     let q = c .before .before in
     let v = q .before .before .before .before .args in
-    let e = asked (v .order) (length (now (v .input))) (length (now (v .tape))) (length (now (v .output))) _ (q .byte-answer .ensures) in
+    let e = byte-answered (box-need (v .order)) (v .order) (length (now (v .input))) (length (now (v .tape))) (length (now (v .output))) _
+    (sym (power-need-pairs (v .order))) (q .byte-answer .ensures) in
     settled-refused _ _ _ _ _ e _ (c .enum-told2 .given .1)
 
 put-requires : tie.Need-put-requires
@@ -50,7 +42,8 @@ put-requires c κs =
     let told = c .before in
     let q = told .before .before in
     let v = q .before .before .before .before .args in
-    let e = asked (v .order) (length (now (v .input))) (length (now (v .tape))) (length (now (v .output))) _ (q .byte-answer .ensures) in
+    let e = byte-answered (box-need (v .order)) (v .order) (length (now (v .input))) (length (now (v .tape))) (length (now (v .output))) _
+    (sym (power-need-pairs (v .order))) (q .byte-answer .ensures) in
     let h = byte-through _ (v .order) (length (now (v .input))) (length (now (v .tape))) (length (now (v .output))) _ _ e (told .enum-told .given .1) in
     omega (arith, h .input, h .output)
 
@@ -68,7 +61,8 @@ box-on-words-requires c κs =
     let told = put .before .before in
     let q = told .before .before in
     let v = q .before .before .before .before .args in
-    let e = asked (v .order) (length (now (v .input))) (length (now (v .tape))) (length (now (v .output))) _ (q .byte-answer .ensures) in
+    let e = byte-answered (box-need (v .order)) (v .order) (length (now (v .input))) (length (now (v .tape))) (length (now (v .output))) _
+    (sym (power-need-pairs (v .order))) (q .byte-answer .ensures) in
     let h = byte-through _ (v .order) (length (now (v .input))) (length (now (v .tape))) (length (now (v .output))) _ _ e (told .enum-told .given .1) in
     let l = put .put .kept .1 .0 in (
       record { order = h .order; long = omega (arith, h .output, l); drawn = words-reach _ (now (v .tape)) (h .drawn) },
@@ -86,7 +80,8 @@ returns-2 c =
     let told = put .before .before in
     let q = told .before .before in
     let v = q .before .before .before .before .args in
-    let e = asked (v .order) (length (now (v .input))) (length (now (v .tape))) (length (now (v .output))) _ (q .byte-answer .ensures) in
+    let e = byte-answered (box-need (v .order)) (v .order) (length (now (v .input))) (length (now (v .tape))) (length (now (v .output))) _
+    (sym (power-need-pairs (v .order))) (q .byte-answer .ensures) in
     let h = byte-through _ (v .order) (length (now (v .input))) (length (now (v .tape))) (length (now (v .output))) _ _ e (told .enum-told .given .1) in
     let m = put .put .ensures ∙ front-all (now (v .input)) (now (v .output)) (h .input ∙ sym (h .output)) in
     let p = core .box-on-words .ensures in
