@@ -4,11 +4,13 @@
  * SHARES. A secret byte is held as n = d + 1 shares, numbered 0 to d, whose
  * XOR is the byte. d is the order: any d of the bytes that a masked product
  * computes say nothing about its factors. Orders 1 to 8 are served. That is
- * proved of one product; of several together nothing is claimed. The refresh,
- * by itself and inside the S-box, draws a byte for each pair of shares (since
- * version 70; before, it was the source's short one, with which the S-box is
- * known not to hide at higher orders what each product hides: Coron, Prouff,
- * Rivain and Roche, FSE 2013).
+ * proved of one product, and of one cube, the S-box's first product with the
+ * squares and the refresh before it: any d of its bytes say nothing about the
+ * byte that is cubed. Of several products together nothing is claimed. The
+ * refresh, by itself and inside the S-box, draws a byte for each pair of
+ * shares (since version 70; before, it was the source's short one, with which
+ * the S-box is known not to hide at higher orders what each product hides:
+ * Coron, Prouff, Rivain and Roche, FSE 2013).
  *
  * LAYOUT. A string of L bytes in shares is one buffer of n * L bytes: all of
  * share 0, then all of share 1, and so on. A single byte in shares is the
@@ -34,11 +36,12 @@
  *   4   output length isn't the one required
  *   5   tape shorter than the call needs
  *   6   place list longer than d
- *   7   some listed place number isn't below P(d)
+ *   7   some listed place number isn't below P(d) (a cube's: isn't below its
+ *       number of places)
  *
- * If several causes apply, the lowest number is given. (dokkumel_read_places()
- * has an order of its own, told there.) A refused call leaves the whole output
- * and *taken as they were, and has used no tape.
+ * If several causes apply, the lowest number is given. (The two readings of
+ * places have an order of their own, told there.) A refused call leaves the
+ * whole output and *taken as they were, and has used no tape.
  *
  * BUFFERS. A buffer is a pointer and a length: of a tape in words, of a place
  * list in numbers, of all others in bytes. For every call:
@@ -70,6 +73,7 @@
  *   DOKKUMEL_STACK_SHARES    split, join, refresh, unused tape, previews
  *   DOKKUMEL_STACK_PRODUCT   the product
  *   DOKKUMEL_STACK_SHEET     its sheet, and the reading of places
+ *   DOKKUMEL_STACK_CUBE      the cube's sheet, and the reading of its places
  *   DOKKUMEL_STACK_SBOX      the S-box
  *   DOKKUMEL_STACK_ENCRYPT   encryption and decryption by a single call
  *   DOKKUMEL_STACK_PREPARE   preparation, and encryption from prepared keys
@@ -95,9 +99,9 @@ extern "C" {
  * under the same names; so this header refers to a function whose name
  * carries the version, and an archive of another version does not have it.
  */
-#define DOKKUMEL_VERSION          70
+#define DOKKUMEL_VERSION          80
 
-uint32_t dokkumel_version_70(void);
+uint32_t dokkumel_version_80(void);
 
 #if defined(__GNUC__)
 #if defined(__has_attribute)
@@ -106,7 +110,7 @@ __attribute__((retain))
 #endif
 #endif
 __attribute__((used))
-static uint32_t (*const dokkumel_linked_version)(void) = dokkumel_version_70;
+static uint32_t (*const dokkumel_linked_version)(void) = dokkumel_version_80;
 #endif
 
 #define DOKKUMEL_OK               0
@@ -117,7 +121,8 @@ static uint32_t (*const dokkumel_linked_version)(void) = dokkumel_version_70;
 #define DOKKUMEL_REFUSED_OUTPUT   4 /* output length isn't the one required */
 #define DOKKUMEL_REFUSED_TAPE     5 /* tape shorter than the call needs */
 #define DOKKUMEL_REFUSED_LIST     6 /* place list longer than d */
-#define DOKKUMEL_REFUSED_PLACE    7 /* some listed place number isn't below P(d) */
+#define DOKKUMEL_REFUSED_PLACE    7 /* some listed place number isn't below P(d)
+                                       (a cube's: isn't below its number of places) */
 
 /*
  * Lengths and tape, exact at orders 1 to 8. With constant arguments they are
@@ -151,6 +156,16 @@ static uint32_t (*const dokkumel_linked_version)(void) = dokkumel_version_70;
 	(2 * DOKKUMEL_SHARES(order) + 5 * DOKKUMEL_PAIRS(order) \
 	+ DOKKUMEL_SHARES(order) * DOKKUMEL_SHARES(order))
 
+/* The number of places in one cube: n squares, three for each pair of the
+   refresh, and P(d). */
+#define DOKKUMEL_CUBE_PLACES(order) \
+	(DOKKUMEL_SHARES(order) + 3 * DOKKUMEL_PAIRS(order) \
+	+ DOKKUMEL_PLACES(order))
+
+/* Bytes that one cube draws, which has a refresh and a product. */
+#define DOKKUMEL_CUBE_BYTES(order) \
+	((1 + 1) * DOKKUMEL_PAIRS(order))
+
 /* Bytes that one S-box draws, which has two refreshes and four products. */
 #define DOKKUMEL_SBOX_BYTES(order) \
 	((2 + 4) * DOKKUMEL_PAIRS(order))
@@ -160,10 +175,12 @@ static uint32_t (*const dokkumel_linked_version)(void) = dokkumel_version_70;
 	(((bytes) + 3) / 4)
 
 /* Words of tape that a call takes. The product, its sheet and the reading of
-   places take the same. DOKKUMEL_ENCRYPT_TAPE is a decryption's too. */
+   places take the same; so do the cube's sheet and the reading of its places.
+   DOKKUMEL_ENCRYPT_TAPE is a decryption's too. */
 #define DOKKUMEL_SPLIT_TAPE(order, bytes)  DOKKUMEL_WORDS((order) * (bytes))
 #define DOKKUMEL_REFRESH_TAPE(order)       DOKKUMEL_WORDS(DOKKUMEL_PAIRS(order))
 #define DOKKUMEL_PRODUCT_TAPE(order)       DOKKUMEL_WORDS(DOKKUMEL_PAIRS(order))
+#define DOKKUMEL_CUBE_TAPE(order)          DOKKUMEL_WORDS(DOKKUMEL_CUBE_BYTES(order))
 #define DOKKUMEL_SBOX_TAPE(order)          DOKKUMEL_WORDS(DOKKUMEL_SBOX_BYTES(order))
 #define DOKKUMEL_ENCRYPT_TAPE(order, key_bytes) \
 	DOKKUMEL_WORDS(DOKKUMEL_SBOXES(key_bytes) * DOKKUMEL_SBOX_BYTES(order))
@@ -185,6 +202,7 @@ static uint32_t (*const dokkumel_linked_version)(void) = dokkumel_version_70;
 #define DOKKUMEL_STACK_SHARES     512
 #define DOKKUMEL_STACK_PRODUCT    2560
 #define DOKKUMEL_STACK_SHEET      3072
+#define DOKKUMEL_STACK_CUBE       3328
 #define DOKKUMEL_STACK_SBOX       2816
 #define DOKKUMEL_STACK_ENCRYPT    6144
 #define DOKKUMEL_STACK_PREPARE    3840
@@ -292,6 +310,51 @@ uint32_t dokkumel_product_sheet(size_t order,
 uint32_t dokkumel_read_places(size_t order,
 	const uint8_t *left, size_t left_len,
 	const uint8_t *right, size_t right_len,
+	const uint32_t *tape, size_t tape_len,
+	const uint16_t *list, size_t list_len,
+	uint8_t *output, size_t output_len,
+	size_t *taken);
+
+/*
+ * The sheet of a cube: every byte that x^2 * x computes in an S-box, at its
+ * place. Each share of x is squared, the squares are refreshed as by
+ * dokkumel_refresh(), and multiplied by the shares of x as by
+ * dokkumel_product(). It is for evaluation, not for production: it holds all
+ * the shares.
+ *
+ *   input    n bytes, the shares x_0 to x_d
+ *   tape     takes DOKKUMEL_CUBE_TAPE(order), for d * (d + 1) bytes: the
+ *            refresh's, and then the product's, without a gap
+ *   output   DOKKUMEL_CUBE_PLACES(order) bytes
+ *
+ * Places, numbered from 0:
+ *
+ *   1. The squares of x_0 to x_d.
+ *   2. For each pair i < j, i outer, both ascending: the byte drawn; share i
+ *      of the square after it is XORed in; share j after it is XORed in.
+ *   3. The P(d) places of the product, as in its sheet: left's shares are
+ *      those of the refreshed square, right's are x_0 to x_d.
+ *
+ * Refusals: 1, 3, 4, 5.
+ */
+uint32_t dokkumel_cube_sheet(size_t order,
+	const uint8_t *input, size_t input_len,
+	const uint32_t *tape, size_t tape_len,
+	uint8_t *output, size_t output_len,
+	size_t *taken);
+
+/*
+ * Read listed places of a cube's sheet, as dokkumel_read_places() reads those
+ * of a product's.
+ *
+ *   input, tape    as the cube's sheet
+ *   list           list_len numbers of 16 bits, at most d of them
+ *   output         list_len bytes
+ *
+ * Refusals: first the sheet's 1, 3 and 5; then 4, 6, 7.
+ */
+uint32_t dokkumel_read_cube_places(size_t order,
+	const uint8_t *input, size_t input_len,
 	const uint32_t *tape, size_t tape_len,
 	const uint16_t *list, size_t list_len,
 	uint8_t *output, size_t output_len,

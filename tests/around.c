@@ -43,7 +43,7 @@ void known_needs(void)
 		if (need == 0)
 			continue;
 		lengths_fit(&c, c.order, l);
-		if (c.routine == READ) /* an empty list still makes the sheet */
+		if (plan_reads(&c)) /* an empty list still makes the sheet */
 			c.len[OUTPUT] = 0;
 		on_words(&c, 0, need);
 		on_words(&c, need - 1, need);

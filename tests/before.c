@@ -6,6 +6,7 @@
 #include "made.h"
 #include "noise.h"
 #include "table.h"
+#include "word_tape.h"
 
 #include <stdio.h>
 
@@ -24,9 +25,12 @@ static const uint32_t sums[ROUTINES][DOKKUMEL_MAX_ORDER] = {
 	[ENCRYPT_PREPARED] = { 0x3588d743 },
 };
 
-/* Above order 1, whatever refreshes has other needs and other shares since document 02's wish 7; at order 1 its steps are the same. */
+/* Above order 1, whatever refreshes has other needs and other shares since document 02's wish 7; at order 1 its steps are the same. Version 53 had
+   no cube. */
 static size_t last_order(enum routine routine)
 {
+	if (routine == CUBE_SHEET || routine == READ_CUBE)
+		return 0;
 	return routine == SPLIT || routine == JOIN || routine == PRODUCT || routine == SHEET || routine == READ ? DOKKUMEL_MAX_ORDER : 1;
 }
 
@@ -39,13 +43,6 @@ static uint32_t sum_on(uint32_t sum, const uint8_t *bytes, size_t len)
 	for (size_t k = 0; k < len; k++)
 		sum = (sum ^ bytes[k]) * 16777619;
 	return sum;
-}
-
-/* The words that hold the bytes, the first of four lowest. */
-static void pack(uint32_t *words, const uint8_t *bytes, size_t len)
-{
-	for (size_t k = 0; k < len; k++)
-		words[k] = bytes[4 * k] + 256u * bytes[4 * k + 1] + 65536u * bytes[4 * k + 2] + 16777216u * bytes[4 * k + 3];
 }
 
 /* The last place, and others before it. */
@@ -73,7 +70,7 @@ static uint32_t sum_of(enum routine routine, size_t d)
 			list_some(&c);
 		noise_fill(&n, bytes, sizeof bytes);
 		noise_fill(&n, in, sizeof in);
-		pack(words, bytes, c.len[TAPE]);
+		tape_pack(words, bytes, 4 * c.len[TAPE]);
 		known_is(made_by_library(&c, p) == DOKKUMEL_OK, "a call on the bytes of version 53's tape is served");
 		sum = sum_on(sum, out, c.len[OUTPUT]);
 	}

@@ -43,7 +43,7 @@ const char *dropped_differs(const struct plan *c, const struct guarded *g)
 		return "a dropped byte or a surplus word has an effect";
 	change_byte(need - 1);
 	/* a reading shows it only where it is listed */
-	if (c->routine != READ && leaves_the_same(c, g))
+	if (!plan_reads(c) && leaves_the_same(c, g))
 		return "the last byte drawn has no effect";
 	return NULL;
 }

@@ -17,11 +17,14 @@ void known_published(void);
 /* FIPS 197's examples of key expansion, as what prepared keys join to. */
 void known_round_keys(void);
 
-/* Document 01's small values and edges. */
+/* The small values and edges of document 01, and of document 02's cube. */
 void known_small(void);
 
 /* Blocks that are encrypted and decrypted, or the other way round: they come back. */
 void known_trips(uint64_t seed);
+
+/* The cube's sheet beside the routines that it is made of. */
+void known_cubes(uint64_t seed);
 
 /* The tape that each routine needs, in words. */
 void known_needs(void);
@@ -29,7 +32,7 @@ void known_needs(void);
 /* The shares that were given when the tape was of bytes, where no other refresh has changed them since. */
 void known_before(void);
 
-/* The refusals of all calls that take a key, in their order and at every length. */
+/* The refusals of all calls that take a key, and of the cube's sheet and reading, in their order and at every length. */
 void known_refusals(void);
 
 /* Previews of jobs whose lengths no buffer could have. */

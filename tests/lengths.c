@@ -2,6 +2,11 @@
 
 #include "dokkumel.h"
 
+size_t lengths_places(enum routine routine, size_t d)
+{
+	return routine == CUBE_SHEET || routine == READ_CUBE ? DOKKUMEL_CUBE_PLACES(d) : DOKKUMEL_PLACES(d);
+}
+
 /* For the calls that take a key of l bytes, or its prepared keys. */
 static void fit_key(struct plan *p, size_t d, size_t l)
 {
@@ -34,7 +39,12 @@ void lengths_fit(struct plan *p, size_t d, size_t l)
 	case SHEET:
 	case READ:
 		len[INPUT] = len[RIGHT] = n, len[TAPE] = DOKKUMEL_PRODUCT_TAPE(d);
-		len[OUTPUT] = p->routine == SHEET ? DOKKUMEL_PLACES(d) : n;
+		len[OUTPUT] = p->routine == SHEET ? lengths_places(SHEET, d) : n;
+		break;
+	case CUBE_SHEET:
+	case READ_CUBE:
+		len[INPUT] = n, len[TAPE] = DOKKUMEL_CUBE_TAPE(d);
+		len[OUTPUT] = p->routine == CUBE_SHEET ? lengths_places(CUBE_SHEET, d) : n;
 		break;
 	case SBOX:
 		len[INPUT] = len[OUTPUT] = n, len[TAPE] = DOKKUMEL_SBOX_TAPE(d);

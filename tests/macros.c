@@ -9,6 +9,9 @@
 /* Document 01's tables, and document 02's numbers for prepared keys and S-boxes; tape in words. */
 _Static_assert(DOKKUMEL_PLACES(1) == 13 && DOKKUMEL_PLACES(2) == 30 && DOKKUMEL_PLACES(3) == 54, "P(1) to P(3)");
 _Static_assert(DOKKUMEL_PLACES(8) == 279, "P(8)");
+_Static_assert(DOKKUMEL_CUBE_PLACES(1) == 18 && DOKKUMEL_CUBE_PLACES(2) == 42 && DOKKUMEL_CUBE_PLACES(3) == 76, "a cube's places");
+_Static_assert(DOKKUMEL_CUBE_PLACES(4) == 120 && DOKKUMEL_CUBE_PLACES(5) == 174 && DOKKUMEL_CUBE_PLACES(6) == 238, "a cube's places");
+_Static_assert(DOKKUMEL_CUBE_PLACES(7) == 312 && DOKKUMEL_CUBE_PLACES(8) == 396, "a cube's places");
 _Static_assert(DOKKUMEL_ENCRYPT_TAPE(1, 16) == 300 && DOKKUMEL_ENCRYPT_TAPE(2, 16) == 900, "16-byte keys");
 _Static_assert(DOKKUMEL_ENCRYPT_TAPE(1, 24) == 336 && DOKKUMEL_ENCRYPT_TAPE(2, 24) == 1008, "24-byte keys");
 _Static_assert(DOKKUMEL_ENCRYPT_TAPE(1, 32) == 414 && DOKKUMEL_ENCRYPT_TAPE(2, 32) == 1242, "32-byte keys");
@@ -28,12 +31,16 @@ _Static_assert(DOKKUMEL_SBOX_BYTES(8) == 216, "S-box");
 _Static_assert(DOKKUMEL_WORDS(1) == 1 && DOKKUMEL_WORDS(4) == 1 && DOKKUMEL_WORDS(5) == 2, "words");
 _Static_assert(DOKKUMEL_REFRESH_TAPE(2) == 1 && DOKKUMEL_REFRESH_TAPE(3) == 2 && DOKKUMEL_REFRESH_TAPE(8) == 9, "refresh");
 _Static_assert(DOKKUMEL_PRODUCT_TAPE(2) == 1 && DOKKUMEL_PRODUCT_TAPE(3) == 2 && DOKKUMEL_PRODUCT_TAPE(8) == 9, "product");
+_Static_assert(DOKKUMEL_CUBE_TAPE(1) == 1 && DOKKUMEL_CUBE_TAPE(2) == 2 && DOKKUMEL_CUBE_TAPE(3) == 3, "cube");
+_Static_assert(DOKKUMEL_CUBE_TAPE(4) == 5 && DOKKUMEL_CUBE_TAPE(5) == 8 && DOKKUMEL_CUBE_TAPE(6) == 11, "cube");
+_Static_assert(DOKKUMEL_CUBE_TAPE(7) == 14 && DOKKUMEL_CUBE_TAPE(8) == 18 && DOKKUMEL_CUBE_BYTES(8) == 72, "cube");
 _Static_assert(DOKKUMEL_SBOX_TAPE(1) == 2 && DOKKUMEL_SBOX_TAPE(2) == 5 && DOKKUMEL_SBOX_TAPE(3) == 9, "S-box");
 _Static_assert(DOKKUMEL_SPLIT_TAPE(1, 16) == 4 && DOKKUMEL_SPLIT_TAPE(8, 32) == 64, "split");
 /* An argument that is a sum. */
 _Static_assert(DOKKUMEL_ENCRYPT_TAPE(1 + 1, 8 + 8) == 900 && DOKKUMEL_PLACES(1 + 2) == 54, "brackets");
 _Static_assert(DOKKUMEL_SHARED(1 + 1, 8 + 8) == 48 && DOKKUMEL_SPLIT_TAPE(1 + 1, 8 + 8) == 8, "brackets");
 _Static_assert(2 * DOKKUMEL_REFRESH_TAPE(2 + 1) == 4 && 2 * DOKKUMEL_PRODUCT_TAPE(2 + 1) == 4, "brackets");
+_Static_assert(2 * DOKKUMEL_CUBE_TAPE(1 + 2) == 6 && 2 * DOKKUMEL_CUBE_BYTES(1 + 2) == 24 && 2 * DOKKUMEL_CUBE_PLACES(1 + 2) == 152, "brackets");
 _Static_assert(2 * DOKKUMEL_SBOX_TAPE(1 + 2) == 18 && 2 * DOKKUMEL_WORDS(4 + 1) == 4, "brackets");
 _Static_assert(DOKKUMEL_PREPARED(1 + 1, 8 + 8) == 528 && 2 * DOKKUMEL_ROUNDS(8 + 8) == 20, "brackets");
 _Static_assert(DOKKUMEL_PREPARE_TAPE(1 + 1, 8 + 8) == 180 && DOKKUMEL_ENCRYPT_PREPARED_TAPE(1 + 1, 8 + 8) == 720, "brackets");
@@ -74,6 +81,20 @@ static void of_places(size_t d)
 	is(dokkumel_product_sheet(d, zeros, n, zeros, n, tape, need, out, places + 1, &taken) == 4, "DOKKUMEL_PLACES", d, 1);
 	is(dokkumel_read_places(d, zeros, n, zeros, n, tape, need, &last, 1, out, 1, &taken) == 0, "DOKKUMEL_PLACES", d, 1);
 	is(dokkumel_read_places(d, zeros, n, zeros, n, tape, need, &past, 1, out, 1, &taken) == 7, "DOKKUMEL_PLACES", d, 1);
+}
+
+static void of_cubes(size_t d)
+{
+	size_t n = DOKKUMEL_SHARES(d), places = DOKKUMEL_CUBE_PLACES(d), need = DOKKUMEL_CUBE_TAPE(d), taken = 0;
+	uint16_t last = (uint16_t)(places - 1), past = (uint16_t)places;
+
+	is(dokkumel_cube_sheet(d, zeros, n, tape, need, out, places, &taken) == 0 && taken == need, "DOKKUMEL_CUBE_TAPE", d, 1);
+	is(dokkumel_cube_sheet(d, zeros, n, tape, need - 1, out, places, &taken) == 5, "DOKKUMEL_CUBE_TAPE", d, 1);
+	is(dokkumel_cube_sheet(d, zeros, n, tape, need, out, places + 1, &taken) == 4, "DOKKUMEL_CUBE_PLACES", d, 1);
+	taken = 0;
+	is(dokkumel_read_cube_places(d, zeros, n, tape, need, &last, 1, out, 1, &taken) == 0 && taken == need, "DOKKUMEL_CUBE_PLACES", d, 1);
+	is(dokkumel_read_cube_places(d, zeros, n, tape, need - 1, &last, 1, out, 1, &taken) == 5, "DOKKUMEL_CUBE_TAPE", d, 1);
+	is(dokkumel_read_cube_places(d, zeros, n, tape, need, &past, 1, out, 1, &taken) == 7, "DOKKUMEL_CUBE_PLACES", d, 1);
 }
 
 static void of_strings(size_t d, size_t l)
@@ -123,6 +144,7 @@ void known_macros(void)
 	for (size_t d = 1; d <= DOKKUMEL_MAX_ORDER; d++) {
 		of_bytes(d);
 		of_places(d);
+		of_cubes(d);
 		for (size_t l = 16; l <= 32; l += 8) {
 			of_strings(d, l);
 			of_keys(d, l);

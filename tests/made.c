@@ -18,6 +18,8 @@
 		case PRODUCT: return by##_product(c->order, B(INPUT), B(RIGHT), DRAWN, B(OUTPUT), TOOK);          \
 		case SHEET: return by##_product_sheet(c->order, B(INPUT), B(RIGHT), DRAWN, B(OUTPUT), TOOK);      \
 		case READ: return by##_read_places(c->order, B(INPUT), B(RIGHT), DRAWN, PLACES, B(OUTPUT), TOOK); \
+		case CUBE_SHEET: return by##_cube_sheet(c->order, B(INPUT), DRAWN, B(OUTPUT), TOOK);              \
+		case READ_CUBE: return by##_read_cube_places(c->order, B(INPUT), DRAWN, PLACES, B(OUTPUT), TOOK); \
 		case SBOX: return by##_sbox(c->order, B(INPUT), DRAWN, B(OUTPUT), TOOK);                          \
 		case ENCRYPT: return by##_encrypt(c->order, B(KEY), B(INPUT), DRAWN, B(OUTPUT), TOOK);            \
 		case DECRYPT: return by##_decrypt(c->order, B(KEY), B(INPUT), DRAWN, B(OUTPUT), TOOK);            \

@@ -31,20 +31,20 @@ static uint64_t fresh_seed(void)
 int main(int argc, char **argv)
 {
 	uint64_t seed = argc > 1 ? strtoull(argv[1], NULL, 0) : fresh_seed();
-	unsigned long calls = argc > 2 ? strtoul(argv[2], NULL, 0) : 36000;
+	unsigned long calls = argc > 2 ? strtoul(argv[2], NULL, 0) : 42000;
 
 	setvbuf(stdout, NULL, _IOLBF, 0);
 	known_published();
 	known_round_keys();
 	puts("FIPS 197's examples at orders 1, 2, 3 and 8, by either route and backwards, and its round keys: as printed");
 	known_small();
-	puts("document 01's small values and edges: as told");
+	puts("document 01's small values and edges, and those of document 02's cube: as told");
 	known_needs();
 	puts("tape of every routine, order and length, in words: one less is refused, one more has no effect");
 	known_before();
 	puts("on the same bytes all shares that the new refresh leaves alone are as they were when the tape was of bytes");
 	known_refusals();
-	puts("refusals of the calls that take a key: in their order, at every length, and as foretold");
+	puts("refusals of the calls that take a key, as foretold, and of the cube's: in their order, and at every length");
 	known_previews();
 	puts("previews: right on lengths that no buffer has, up to the largest");
 	known_macros();
@@ -53,6 +53,8 @@ int main(int argc, char **argv)
 	puts("guards: every change is found");
 	known_trips(seed);
 	puts("encrypted and decrypted, or the other way round, at one order and at two: every block comes back");
+	known_cubes(seed);
+	puts("cubes: squares, refresh and product by themselves give the same bytes, and join to the cube");
 	printf("%lu random calls, seed %" PRIu64 "\n", calls, seed);
 	calls_compare(seed, calls);
 	puts("ok");

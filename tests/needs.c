@@ -16,6 +16,9 @@ size_t need_bytes(enum routine routine, size_t d, size_t l)
 	case SHEET:
 	case READ:
 		return d * (d + 1) / 2;
+	case CUBE_SHEET:
+	case READ_CUBE:
+		return d * (d + 1);
 	case SBOX:
 		return sbox;
 	case ENCRYPT:

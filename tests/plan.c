@@ -22,6 +22,8 @@ static const unsigned possible[ROUTINES] = {
 	[PRODUCT] = ONE_INPUT | BIT(BAD_RIGHT),
 	[SHEET] = ONE_INPUT | BIT(BAD_RIGHT),
 	[READ] = ONE_INPUT | BIT(BAD_RIGHT) | BIT(BAD_LIST) | BIT(BAD_PLACE),
+	[CUBE_SHEET] = ONE_INPUT,
+	[READ_CUBE] = ONE_INPUT | BIT(BAD_LIST) | BIT(BAD_PLACE),
 	[SBOX] = ONE_INPUT,
 	[ENCRYPT] = ONE_INPUT | BIT(BAD_KEY),
 	[DECRYPT] = ONE_INPUT | BIT(BAD_KEY),
@@ -105,10 +107,10 @@ static size_t tape_length(struct noise *n, size_t need, int is_short)
 	return roll < 2 ? need : roll == 2 ? need + 1 + noise_below(n, 8) : need + noise_below(n, MAX_SURPLUS + 1);
 }
 
-/* At most d places below P(d), often the last, some twice; or more than d; or one that is not below P(d). The output is as long. */
+/* At most d places of the sheet, often the last, some twice; or more than d; or one that the sheet does not have. The output is as long. */
 static void fill_list(struct plan *p, struct noise *n, size_t d, unsigned faults)
 {
-	size_t places = DOKKUMEL_PLACES(d), len = noise_below(n, d + 1);
+	size_t places = lengths_places(p->routine, d), len = noise_below(n, d + 1);
 	uint16_t beyond[4] = { (uint16_t)places, (uint16_t)places, 65535, (uint16_t)(places + noise_below(n, 65536 - places)) };
 
 	if (noise_below(n, 3) == 0)
@@ -149,7 +151,7 @@ void plan_make(struct plan *p, struct noise *n)
 	lengths_fit(p, d, l);
 	if (p->order > 9 && noise_below(n, 4) == 0)
 		lengths_wrap(p, l);
-	if (p->routine == READ)
+	if (plan_reads(p))
 		fill_list(p, n, d, faults);
 	if (faults & BIT(BAD_KEY))
 		p->len[KEY] = bend_key(n, p->len[KEY], d);
@@ -164,6 +166,11 @@ void plan_make(struct plan *p, struct noise *n)
 	if (p->routine == UNUSED)
 		p->count = choose_count(n, p->len[TAPE]);
 	p->len[TAKEN] = 1;
+}
+
+int plan_reads(const struct plan *p)
+{
+	return p->routine == READ || p->routine == READ_CUBE;
 }
 
 size_t plan_key_bytes(const struct plan *p)

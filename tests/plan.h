@@ -7,7 +7,9 @@
 
 #include "noise.h"
 
-enum routine { SPLIT, JOIN, REFRESH, PRODUCT, SHEET, READ, SBOX, ENCRYPT, DECRYPT, PREPARE, ENCRYPT_PREPARED, UNUSED, ROUTINES };
+enum routine {
+	SPLIT, JOIN, REFRESH, PRODUCT, SHEET, READ, CUBE_SHEET, READ_CUBE, SBOX, ENCRYPT, DECRYPT, PREPARE, ENCRYPT_PREPARED, UNUSED, ROUTINES
+};
 
 /* INPUT is also the left factor, KEY also prepared keys. */
 enum buffer { KEY, INPUT, RIGHT, TAPE, LIST, OUTPUT, TAKEN, BUFFERS };
@@ -30,6 +32,9 @@ struct plan {
 
 /* Half of the plans fit; the others have one to three things that may not. */
 void plan_make(struct plan *p, struct noise *n);
+
+/* Whether the routine reads places by a list. */
+int plan_reads(const struct plan *p);
 
 /* Of a call that was carried through: 16, 24 or 32 for its key's size, prepared or not; 0 if the routine takes no key. */
 size_t plan_key_bytes(const struct plan *p);

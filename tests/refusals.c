@@ -1,4 +1,5 @@
-/* The refusals of the calls that take a key: their order, and every length up to some past the longest. Each call is asked about beforehand. */
+/* The refusals of the calls that take a key, and of the cube's: their order, and every length up to some past the longest. Each call with a key is
+   asked about beforehand. */
 #include "known.h"
 
 #include "block_call.h"
@@ -107,6 +108,45 @@ static void block_in_order(const struct block *b, size_t d, size_t size)
 	is(block(b, d, key, shared, shared, need) == 0 && taken == need, b->name, "served", d, l);
 }
 
+/* Places of a cube, from order 1 on. */
+static const size_t cube_places[] = { 18, 42, 76, 120, 174, 238, 312, 396 };
+
+static uint32_t cube_sheet(size_t d, size_t input_len, size_t output_len, size_t tape_len)
+{
+	before();
+	return dokkumel_cube_sheet(d, zeros, input_len, tape, tape_len, out, output_len, &taken);
+}
+
+/* Every entry of the list is the one place. */
+static uint32_t read_cube(size_t d, size_t input_len, size_t tape_len, size_t list_len, size_t output_len, size_t place)
+{
+	static uint16_t list[LONGEST];
+
+	before();
+	for (size_t k = 0; k < list_len; k++)
+		list[k] = (uint16_t)place;
+	return dokkumel_read_cube_places(d, zeros, input_len, tape, tape_len, list, list_len, out, output_len, &taken);
+}
+
+/* All causes at once, and then one less in each line. A reading asks for tape before it asks for output. */
+static void cube_in_order(size_t d)
+{
+	size_t n = d + 1, places = cube_places[d - 1], need = need_words(CUBE_SHEET, d, 0);
+
+	is(refused(cube_sheet(9, n + 1, places + 1, need - 1), 1), "cube_sheet", "1 first", d, n);
+	is(refused(cube_sheet(d, n + 1, places + 1, need - 1), 3), "cube_sheet", "3 next", d, n);
+	is(refused(cube_sheet(d, n, places + 1, need - 1), 4), "cube_sheet", "then 4", d, n);
+	is(refused(cube_sheet(d, n, places, need - 1), 5), "cube_sheet", "then 5", d, n);
+	is(cube_sheet(d, n, places, need) == 0 && taken == need, "cube_sheet", "served", d, n);
+	is(refused(read_cube(9, n + 1, need - 1, d + 1, d, places), 1), "read_cube_places", "1 first", d, n);
+	is(refused(read_cube(d, n + 1, need - 1, d + 1, d, places), 3), "read_cube_places", "3 next", d, n);
+	is(refused(read_cube(d, n, need - 1, d + 1, d, places), 5), "read_cube_places", "then 5", d, n);
+	is(refused(read_cube(d, n, need, d + 1, d, places), 4), "read_cube_places", "then 4", d, n);
+	is(refused(read_cube(d, n, need, d + 1, d + 1, places), 6), "read_cube_places", "then 6", d, n);
+	is(refused(read_cube(d, n, need, d, d, places), 7), "read_cube_places", "then 7", d, n);
+	is(read_cube(d, n, need, d, d, places - 1) == 0 && taken == need, "read_cube_places", "served", d, n);
+}
+
 static void prepare_at(size_t d, size_t len)
 {
 	size_t n = d + 1;
@@ -125,9 +165,28 @@ static void block_at(const struct block *b, size_t d, size_t len)
 	is(refused(block(b, d, key, shared, len, 0), len == shared ? 5 : 4), b->name, "an output length", d, len);
 }
 
+static void cube_at(size_t d, size_t len)
+{
+	size_t n = d + 1, places = cube_places[d - 1], need = need_words(READ_CUBE, d, 0);
+
+	is(refused(cube_sheet(d, len, places, 0), len == n ? 5 : 3), "cube_sheet", "an input length", d, len);
+	is(refused(cube_sheet(d, n, len, 0), len == places ? 5 : 4), "cube_sheet", "an output length", d, len);
+	is(refused(read_cube(d, len, 0, 1, 1, 0), len == n ? 5 : 3), "read_cube_places", "an input length", d, len);
+	is(refused(read_cube(d, n, need, d, len, places), len == d ? 7 : 4), "read_cube_places", "an output length", d, len);
+	if (len > 0)
+		is(refused(read_cube(d, n, need, len, len, places), len <= d ? 7 : 6), "read_cube_places", "a list length", d, len);
+	if (len < places)
+		is(read_cube(d, n, need, 1, 1, len) == 0 && taken == need, "read_cube_places", "a place number", d, len);
+	else
+		is(refused(read_cube(d, n, need, 1, 1, len), 7), "read_cube_places", "a place number", d, len);
+}
+
 void known_refusals(void)
 {
 	for (size_t d = 1; d <= DOKKUMEL_MAX_ORDER; d++) {
+		cube_in_order(d);
+		for (size_t len = 0; len <= LONGEST; len++)
+			cube_at(d, len);
 		for (size_t size = 0; size < 3; size++)
 			prepare_in_order(d, size);
 		for (size_t len = 0; len <= LONGEST; len++)

@@ -1,7 +1,7 @@
 /*
  * A second implementation of the library's routines, written from document
- * 01, and for prepared keys, decryption, tapes of words and the refresh from
- * document 02: the same parameters, the same answers, refusals too.
+ * 01, and for prepared keys, decryption, tapes of words, the refresh and the
+ * cube from document 02: the same parameters, the same answers, refusals too.
  */
 #ifndef SECOND_H
 #define SECOND_H
@@ -22,6 +22,10 @@ uint32_t second_product_sheet(size_t order, const uint8_t *left, size_t left_len
 uint32_t second_read_places(size_t order, const uint8_t *left, size_t left_len, const uint8_t *right, size_t right_len,
 	const uint32_t *tape, size_t tape_len, const uint16_t *list, size_t list_len,
 	uint8_t *output, size_t output_len, size_t *taken);
+uint32_t second_cube_sheet(size_t order, const uint8_t *input, size_t input_len, const uint32_t *tape, size_t tape_len,
+	uint8_t *output, size_t output_len, size_t *taken);
+uint32_t second_read_cube_places(size_t order, const uint8_t *input, size_t input_len, const uint32_t *tape, size_t tape_len,
+	const uint16_t *list, size_t list_len, uint8_t *output, size_t output_len, size_t *taken);
 uint32_t second_sbox(size_t order, const uint8_t *input, size_t input_len, const uint32_t *tape, size_t tape_len,
 	uint8_t *output, size_t output_len, size_t *taken);
 uint32_t second_encrypt(size_t order, const uint8_t *key, size_t key_len, const uint8_t *input, size_t input_len,

@@ -1,4 +1,4 @@
-/* Document 01's small values and edges, with its tapes in words and document 02's refresh, through the C interface. */
+/* Document 01's small values and edges, with its tapes in words and document 02's refresh and cube, through the C interface. */
 #include "known.h"
 
 #include "block_call.h"
@@ -25,6 +25,35 @@ static void values(void)
 		"the sheet of 02 03 and 01 04 on the word 00000010");
 	known_is(dokkumel_product(1, a, 2, b, 2, tape, 1, out, 2, &taken) == 0 && taken == 1 && memcmp(out, product, 2) == 0,
 		"the product of 02 03 and 01 04 on the word 00000010 is 12 17");
+}
+
+/* Document 02, wish 8. */
+static void cubes(void)
+{
+	static const uint8_t x[] = { 0x02, 0x03 };
+	static const uint8_t sheet[] = { 4, 5, 5, 1, 0, 1, 0, 2, 3, 0x10, 3, 0x13, 0, 0x13, 2, 0x12, 0, 0x13 };
+	static const uint32_t tape[] = { 0x00001005 };
+	static const uint16_t places[] = { 17, 18, 395 };
+	uint8_t out[396] = { 0 };
+	size_t taken = 0;
+
+	known_is(dokkumel_cube_sheet(1, x, 2, tape, 1, out, 18, &taken) == 0 && taken == 1 && memcmp(out, sheet, 18) == 0,
+		"the cube's sheet of 02 03 on the word 00001005");
+	known_is(dokkumel_cube_sheet(1, x, 2, tape, 1, out, 17, &taken) == 4, "at order 1, 17 places of a cube are refused (4)");
+	known_is(dokkumel_cube_sheet(8, zeros, 9, zero_tape, 18, out, 396, &taken) == 0 && taken == 18, "at order 8 a cube has 396 places");
+	known_is(dokkumel_cube_sheet(8, zeros, 9, zero_tape, 18, out, 395, &taken) == 4, "at order 8, 395 places of a cube are refused (4)");
+	known_is(dokkumel_cube_sheet(9, zeros, 10, zero_tape, 0, out, 396, &taken) == 1, "a cube at order 9 with an empty tape is refused (1)");
+	known_is(dokkumel_read_cube_places(1, x, 2, tape, 1, places, 1, out, 1, &taken) == 0 && taken == 1 && out[0] == 0x13,
+		"at order 1, a cube's place 17 is read");
+	known_is(dokkumel_read_cube_places(1, x, 2, tape, 1, places + 1, 1, out, 1, &taken) == 7, "at order 1, a cube's place 18 is refused (7)");
+	known_is(dokkumel_read_cube_places(2, zeros, 3, zero_tape, 2, places, 2, out, 2, &taken) == 0 && taken == 2,
+		"at order 2, two places of a cube are read");
+	known_is(dokkumel_read_cube_places(2, zeros, 3, zero_tape, 2, places, 3, out, 3, &taken) == 6,
+		"at order 2, three places of a cube are refused (6)");
+	known_is(dokkumel_read_cube_places(8, zeros, 9, zero_tape, 18, places, 3, out, 3, &taken) == 0 && taken == 18,
+		"at order 8, a cube's place 395 is read");
+	known_is(dokkumel_read_cube_places(9, zeros, 10, zero_tape, 0, places, 3, out, 3, &taken) == 1,
+		"a reading of a cube at order 9 with an empty tape is refused (1)");
 }
 
 static void boxes(void)
@@ -84,6 +113,7 @@ static void key_edges(const char *name, block_call *call)
 void known_small(void)
 {
 	values();
+	cubes();
 	boxes();
 	edges();
 	key_edges("encrypt", dokkumel_encrypt);

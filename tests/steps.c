@@ -53,17 +53,25 @@ uint8_t step_inverse_affine(uint8_t a)
 	return affine(a, list, 3, 0x05);
 }
 
-/* Document 02, wish 7: one byte for each pair, in the product's order. */
-void step_refresh(size_t d, uint8_t *x, struct tape *t)
+/* Document 02, wish 7: one byte for each pair, in the product's order. Its bytes take the next places; answers with the one behind them. */
+static uint8_t *refresh(size_t d, uint8_t *x, struct tape *t, uint8_t *place)
 {
 	for (size_t i = 0; i <= d; i++) {
 		for (size_t j = i + 1; j <= d; j++) {
-			uint8_t mask = note(draw(t), "t(%zu,%zu)", i, j);
+			uint8_t mask = *place++ = note(draw(t), "t(%zu,%zu)", i, j);
 
-			x[i] = note(x[i] ^ mask, "share %zu after t(%zu,%zu)", i, i, j);
-			x[j] = note(x[j] ^ mask, "share %zu after t(%zu,%zu)", j, i, j);
+			*place++ = x[i] = note(x[i] ^ mask, "share %zu after t(%zu,%zu)", i, i, j);
+			*place++ = x[j] = note(x[j] ^ mask, "share %zu after t(%zu,%zu)", j, i, j);
 		}
 	}
+	return place;
+}
+
+void step_refresh(size_t d, uint8_t *x, struct tape *t)
+{
+	uint8_t places[MAX_CUBE_PLACES];
+
+	refresh(d, x, t, places);
 }
 
 void step_product(size_t d, const uint8_t *a, const uint8_t *b, struct tape *t, uint8_t *c, uint8_t *places)
@@ -111,16 +119,24 @@ static void squares(size_t d, uint8_t *y, const uint8_t *x, int times)
 	}
 }
 
-/* The shares of x to the 254, in place. */
-static void power_254(size_t d, uint8_t *x, struct tape *t)
+void step_cube(size_t d, const uint8_t *x, struct tape *t, uint8_t *z, uint8_t *y, uint8_t *places)
 {
-	uint8_t y[MAX_SHARES], z[MAX_SHARES], w[MAX_SHARES];
+	uint8_t *place;
 
 	note_where("z = x^2");
 	squares(d, z, x, 1);
-	step_refresh(d, z, t);
+	memcpy(places, z, d + 1);
+	place = refresh(d, z, t, places + d + 1);
 	note_where("z*x");
-	multiply(d, y, z, x, t);
+	step_product(d, z, x, t, y, place);
+}
+
+/* The shares of x to the 254, in place. */
+static void power_254(size_t d, uint8_t *x, struct tape *t)
+{
+	uint8_t y[MAX_SHARES], z[MAX_SHARES], w[MAX_SHARES], places[MAX_CUBE_PLACES];
+
+	step_cube(d, x, t, z, y, places);
 	note_where("w = y^4");
 	squares(d, w, y, 2);
 	step_refresh(d, w, t);

@@ -13,6 +13,7 @@
 #define MAX_ORDER  8
 #define MAX_SHARES 9
 #define MAX_PLACES 279
+#define MAX_CUBE_PLACES 396
 
 uint8_t step_times(uint8_t a, uint8_t b);
 uint8_t step_affine(uint8_t a);
@@ -23,6 +24,9 @@ void step_refresh(size_t d, uint8_t *x, struct tape *t);
 
 /* c = a * b. Every byte on the way is noted in places, in the order of document 01's numbers. */
 void step_product(size_t d, const uint8_t *a, const uint8_t *b, struct tape *t, uint8_t *c, uint8_t *places);
+
+/* z = x^2, refreshed, and y = z * x: the S-box's first product. Every byte on the way is noted in places, in the order of document 02's numbers. */
+void step_cube(size_t d, const uint8_t *x, struct tape *t, uint8_t *z, uint8_t *y, uint8_t *places);
 
 /* The S-box of the byte x, and its inverse. */
 typedef void step_box(size_t d, uint8_t *x, struct tape *t);

@@ -8,14 +8,16 @@
 
 const char *const routine_names[ROUTINES] = {
 	[SPLIT] = "split", [JOIN] = "join", [REFRESH] = "refresh", [PRODUCT] = "product", [SHEET] = "product_sheet",
-	[READ] = "read_places", [SBOX] = "sbox", [ENCRYPT] = "encrypt", [DECRYPT] = "decrypt",
+	[READ] = "read_places", [CUBE_SHEET] = "cube_sheet", [READ_CUBE] = "read_cube_places", [SBOX] = "sbox",
+	[ENCRYPT] = "encrypt", [DECRYPT] = "decrypt",
 	[PREPARE] = "prepare", [ENCRYPT_PREPARED] = "encrypt_prepared", [UNUSED] = "unused_tape",
 };
 
-/* The outcomes that document 01, and document 02 for decryption and prepared keys, give each routine. */
+/* The outcomes that document 01, and document 02 for decryption, prepared keys and the cube, give each routine. */
 static const char *const outcomes[ROUTINES] = {
 	[SPLIT] = "01345", [JOIN] = "0134", [REFRESH] = "01345", [PRODUCT] = "01345", [SHEET] = "01345",
-	[READ] = "0134567", [SBOX] = "01345", [ENCRYPT] = "012345", [DECRYPT] = "012345",
+	[READ] = "0134567", [CUBE_SHEET] = "01345", [READ_CUBE] = "0134567", [SBOX] = "01345",
+	[ENCRYPT] = "012345", [DECRYPT] = "012345",
 	[PREPARE] = "01245", [ENCRYPT_PREPARED] = "012345", [UNUSED] = "0",
 };
 

@@ -10,6 +10,7 @@
 void set_refresh(void) { inputs_whole(in.n, DOKKUMEL_REFRESH_TAPE(in.order), in.n); }
 static void set_product(void) { inputs_whole(in.n, DOKKUMEL_PRODUCT_TAPE(in.order), in.n); }
 static void set_sheet(void) { inputs_whole(in.n, DOKKUMEL_PRODUCT_TAPE(in.order), DOKKUMEL_PLACES(in.order)); }
+static void set_cube(void) { inputs_whole(in.n, DOKKUMEL_CUBE_TAPE(in.order), DOKKUMEL_CUBE_PLACES(in.order)); }
 static void set_sbox(void) { inputs_whole(in.n, DOKKUMEL_SBOX_TAPE(in.order), in.n); }
 
 static void make_refresh(void)
@@ -25,6 +26,11 @@ static void make_product(void)
 static void make_sheet(void)
 {
 	in.status = dokkumel_product_sheet(in.order, in.left, in.n, in.right, in.n, in.tape, in.tape_len, in.out, in.out_len, &in.taken);
+}
+
+static void make_cube(void)
+{
+	in.status = dokkumel_cube_sheet(in.order, in.left, in.n, in.tape, in.tape_len, in.out, in.out_len, &in.taken);
 }
 
 static void make_sbox(void)
@@ -55,6 +61,18 @@ static void note_product_of(void)
 	uint8_t places[MAX_PLACES];
 
 	step_product(in.order, in.left, in.right, &t, in.second, places);
+	note_dropped(&t);
+	if (in.out_len != in.n)
+		memcpy(in.second, places, in.out_len);
+}
+
+/* The S-box's first product is noted by the same function: step_sbox() has it from there. */
+void note_cube(void)
+{
+	struct tape t = { in.tape, 0 };
+	uint8_t z[MAX_SHARES], places[MAX_CUBE_PLACES];
+
+	step_cube(in.order, in.left, &t, z, in.second, places);
 	note_dropped(&t);
 	if (in.out_len != in.n)
 		memcpy(in.second, places, in.out_len);
@@ -98,6 +116,7 @@ const struct call byte_calls[] = {
 	{ "refresh", 8, RUNS, set_refresh, draw_field, make_refresh, note_refresh },
 	{ "product", 8, RUNS, set_product, draw_field, make_product, note_product_of },
 	{ "sheet", 8, RUNS, set_sheet, draw_field, make_sheet, note_product_of },
+	{ "cube", 8, RUNS, set_cube, draw_field, make_cube, note_cube },
 	{ "sbox", 8, RUNS, set_sbox, draw_field, make_sbox, note_sbox },
 };
 const size_t byte_call_count = sizeof byte_calls / sizeof byte_calls[0];

@@ -29,14 +29,15 @@ extern const size_t byte_call_count, block_call_count;
 /* A whole encryption, which takes minutes. */
 extern const struct call whole_call;
 
-/* Routines that hold what they must not: brackets moved, two draws of a refresh in one byte, and two shares in one byte, in a whole call and in a
-   window (planted.c). Each is tried at its last order alone. */
+/* Routines that hold what they must not: brackets moved, two draws of a refresh in one byte, a cube's square before its refresh times x, and two
+   shares in one byte, in a whole call and in a window (planted.c). Each is tried at its last order alone. */
 extern const struct call planted[];
 extern const size_t planted_count;
 
-/* Of the refresh, which is also planted. */
+/* Of the refresh and the cube, which are also planted. The cube's output is its sheet, or its product where it has as many bytes as shares. */
 void set_refresh(void);
 void note_refresh(void);
+void note_cube(void);
 
 /* Before the first run of a call at an order. The window's places are those after so many draws to so many. */
 void call_begin(const struct call *c, size_t order, struct notes *n);

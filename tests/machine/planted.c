@@ -5,17 +5,23 @@
 
 #define RUNS 60
 
-/* Document 01's first mistake: the product with its brackets moved. Its field products are made beforehand; each is one step. */
+/* Field products, made beforehand; each is one step. */
 static uint8_t times[2][2];
 
+static void make_times(const uint8_t *a, const uint8_t *b)
+{
+	for (int i = 0; i < 2; i++)
+		for (int j = 0; j < 2; j++)
+			times[i][j] = step_times(a[i], b[j]);
+}
+
+/* Document 01's first mistake: the product with its brackets moved. */
 static void set_moved(void) { inputs_whole(in.n, DOKKUMEL_PRODUCT_TAPE(in.order), in.n); }
 
 static void draw_moved(size_t run)
 {
 	draw_field(run);
-	for (int i = 0; i < 2; i++)
-		for (int j = 0; j < 2; j++)
-			times[i][j] = step_times(in.left[i], in.right[j]);
+	make_times(in.left, in.right);
 }
 
 static void make_moved(void)
@@ -52,6 +58,38 @@ static void make_met(void)
 	x[1] ^= t[2];
 	x[2] ^= t[1];
 	x[2] ^= t[2];
+}
+
+/*
+ * A cube that also multiplies the square as it was before its refresh: x_0^2 * x_1 is a byte of both shares of x. In the sheet of a product of x^2
+ * and x it would have a place; in the cube's own list it must have none.
+ */
+static uint8_t unrefreshed;
+
+static void set_unrefreshed(void) { inputs_whole(in.n, DOKKUMEL_CUBE_TAPE(in.order), in.n); }
+
+static void draw_unrefreshed(size_t run)
+{
+	struct tape t = { in.tape, 0 };
+	uint8_t z[2];
+
+	draw_field(run);
+	for (int i = 0; i < 2; i++)
+		z[i] = step_times(in.left[i], in.left[i]);
+	unrefreshed = step_times(z[0], in.left[1]);
+	step_refresh(in.order, z, &t);
+	make_times(z, in.left);
+}
+
+static void make_unrefreshed(void)
+{
+	volatile uint8_t both = unrefreshed, back = (uint8_t)(in.tape[0] >> 8);
+
+	(void)both;
+	in.out[0] = times[0][0] ^ back;
+	back ^= times[0][1];
+	back ^= times[1][0];
+	in.out[1] = times[1][1] ^ back;
 }
 
 /* Doubles a column in each of two shares, and holds a byte of both shares on the way. */
@@ -112,6 +150,7 @@ static void note_behind(void)
 const struct call planted[] = {
 	{ "planted: brackets moved", 1, RUNS, set_moved, draw_moved, make_moved, note_moved },
 	{ "planted: two draws met", 2, RUNS, set_refresh, draw_field, make_met, note_refresh },
+	{ "planted: square not refreshed", 1, RUNS, set_unrefreshed, draw_unrefreshed, make_unrefreshed, note_cube },
 	{ "planted: two shares in a byte", 1, RUNS, set_column, draw_field, make_two_shares, note_two_shares },
 	{ "planted: behind four S-boxes", 1, RUNS, set_behind, draw_field, make_behind, note_behind },
 };

@@ -62,6 +62,8 @@ static void bytes_at(size_t d)
 	made(dokkumel_product(d, left, n, right, n, DRAWN, output, n, &taken));
 	made(dokkumel_product_sheet(d, left, n, right, n, DRAWN, output, DOKKUMEL_PLACES(d), &taken));
 	made(dokkumel_read_places(d, left, n, right, n, DRAWN, list, 1, output, 1, &taken));
+	made(dokkumel_cube_sheet(d, left, n, DRAWN, output, DOKKUMEL_CUBE_PLACES(d), &taken));
+	made(dokkumel_read_cube_places(d, left, n, DRAWN, list, 1, output, 1, &taken));
 	made(dokkumel_sbox(d, left, n, DRAWN, output, n, &taken));
 	made(dokkumel_join(d, block, DOKKUMEL_SHARED(d, 16), output, 16, &taken));
 }

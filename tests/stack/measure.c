@@ -41,6 +41,15 @@ static void read_places(void)
 	static const uint16_t list[] = {0};
 	dokkumel_read_places(order, key, shared(1), block, shared(1), DRAWN, list, 1, output, 1, &taken);
 }
+static void cube_sheet(void)
+{
+	dokkumel_cube_sheet(order, block, shared(1), DRAWN, output, DOKKUMEL_CUBE_PLACES(order), &taken);
+}
+static void read_cube_places(void)
+{
+	static const uint16_t list[] = {0};
+	dokkumel_read_cube_places(order, block, shared(1), DRAWN, list, 1, output, 1, &taken);
+}
 static void sbox(void) { dokkumel_sbox(order, block, shared(1), DRAWN, output, shared(1), &taken); }
 static void encrypt(void)
 {
@@ -81,6 +90,8 @@ static const struct entry {
 	{"product", product, DOKKUMEL_STACK_PRODUCT, NONE},
 	{"product_sheet", sheet, DOKKUMEL_STACK_SHEET, NONE},
 	{"read_places", read_places, DOKKUMEL_STACK_SHEET, NONE},
+	{"cube_sheet", cube_sheet, DOKKUMEL_STACK_CUBE, NONE},
+	{"read_cube_places", read_cube_places, DOKKUMEL_STACK_CUBE, NONE},
 	{"sbox", sbox, DOKKUMEL_STACK_SBOX, NONE},
 	{"encrypt", encrypt, DOKKUMEL_STACK_ENCRYPT, ALL},
 	{"decrypt", decrypt, DOKKUMEL_STACK_ENCRYPT, ALL},

@@ -10,7 +10,8 @@ use Rattle.sbox.specs.Calls.{Box-outcome}
 use Rattle.aes.specs.Calls.{Encrypt-outcome, Decrypt-outcome, Prepare-outcome, Encrypt-prepared-outcome}
 use Rattle.command_line.specs.declared.commands.Command.{Command}
 use Rattle.command_line.specs.declared.commands.Command.the-variants.{Encrypt, Decrypt, Prepare, EncryptPrepared, Split, Join, Refresh, Product}
-use Rattle.command_line.specs.declared.commands.Command.the-variants.{Sbox, Read, Sheet, Places, Tape, Preview, Help, Unknown}
+use Rattle.command_line.specs.declared.commands.Command.the-variants.{Sbox, Read, Sheet, Places, ReadCube, CubeSheet, CubePlaces}
+use Rattle.command_line.specs.declared.commands.Command.the-variants.{Tape, Preview, Help, Unknown}
 
 -- a command that calls no routine of this form never gets there; it stands as a refused order
 abbrev pub called : Command → (order : ℕ) (first second tape output : List ℕ) → Outcome
@@ -26,6 +27,9 @@ called Sbox d x y t o = Box-outcome d x t o
 called Read d x y t o = refused 1 o
 called Sheet d x y t o = refused 1 o
 called Places d x y t o = refused 1 o
+called ReadCube d x y t o = refused 1 o
+called CubeSheet d x y t o = refused 1 o
+called CubePlaces d x y t o = refused 1 o
 called Tape d x y t o = refused 1 o
 called Preview d x y t o = refused 1 o
 called Help d x y t o = refused 1 o

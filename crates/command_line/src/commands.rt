@@ -14,6 +14,9 @@ pub enum Command {
     Read,
     Sheet,
     Places,
+    ReadCube,
+    CubeSheet,
+    CubePlaces,
     Tape,
     Preview,
     Help,
@@ -30,6 +33,15 @@ fn other_named(word: &[u8]) -> Command {
     }
     if text::same(word, b"places") {
         return Command::Places;
+    }
+    if text::same(word, b"read-cube") {
+        return Command::ReadCube;
+    }
+    if text::same(word, b"cube-sheet") {
+        return Command::CubeSheet;
+    }
+    if text::same(word, b"cube-places") {
+        return Command::CubePlaces;
     }
     if text::same(word, b"tape") {
         return Command::Tape;
@@ -83,9 +95,14 @@ fn length(c: Command) -> usize {
         | Command::Product
         | Command::Sheet
         | Command::Read => 6,
-        Command::Prepare | Command::Split | Command::Refresh | Command::Sbox => 5,
+        Command::Prepare
+        | Command::Split
+        | Command::Refresh
+        | Command::Sbox
+        | Command::CubeSheet
+        | Command::ReadCube => 5,
         Command::Join | Command::Tape => 4,
-        Command::Places | Command::Preview => 3,
+        Command::Places | Command::CubePlaces | Command::Preview => 3,
         Command::Help | Command::Unknown => 2,
     }
 }
@@ -103,12 +120,12 @@ pub fn has_words(count: usize, wanted: usize) -> bool {
     true
 }
 
-// Whether a line of that many words has the command's arguments; if not, a line says so. How many follow, `read` and `preview` find out for
-// themselves.
+// Whether a line of that many words has the command's arguments; if not, a line says so. How many follow, `read`, `read-cube` and `preview` find out
+// for themselves.
 pub fn is_whole(c: Command, count: usize) -> bool {
     let wanted = length(c);
     match c {
-        Command::Read | Command::Preview | Command::Unknown => count >= wanted
+        Command::Read | Command::ReadCube | Command::Preview | Command::Unknown => count >= wanted
             || has_words(count, wanted),
         _ => has_words(count, wanted),
     }

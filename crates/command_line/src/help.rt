@@ -15,6 +15,9 @@ dokkumel sbox ORDER SHARES TAPE                             S-box of one byte in
 dokkumel sheet ORDER LEFT RIGHT TAPE                        every byte of a product: number, name, byte
 dokkumel read ORDER LEFT RIGHT TAPE PLACE...                the bytes at listed places of a product
 dokkumel places ORDER                                       the places of a product: number, name
+dokkumel cube-sheet ORDER SHARES TAPE                       every byte of the cube x*x^2: number, name, byte
+dokkumel read-cube ORDER SHARES TAPE PLACE...               the bytes at listed places of the cube
+dokkumel cube-places ORDER                                  the places of the cube: number, name
 dokkumel tape ORDER KEYBYTES                                which tape bytes and words go into which step of an encryption or a decryption
 dokkumel preview ROUTE ORDER LENGTH...                      what that call would answer on buffers of these lengths
 dokkumel help                                               this text

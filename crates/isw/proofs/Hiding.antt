@@ -26,7 +26,7 @@ use Rattle.isw.proofs.Unseen.{seen-a, seen-b, kept-rows, pick, change, 
 
 -- ---- the corrections are numbers of w bits where the operation makes such numbers
 
-pick-lt : (w : ℕ) (si sj : Bool) (x y : ℕ) → x < 2 ^ w → y < 2 ^ w → pick si sj x y < 2 ^ w
+pub pick-lt : (w : ℕ) (si sj : Bool) (x y : ℕ) → x < 2 ^ w → y < 2 ^ w → pick si sj x y < 2 ^ w
 unfolding pick
 pick-lt w true sj x y hx hy = pow-pos w
 pick-lt w false true x y hx hy = xor-lt w x y hx hy

@@ -124,7 +124,7 @@ module _ (op : ℕ → ℕ → ℕ) (n : ℕ) (s : ℕ → Bool) (a a′ b b′ 
       by-lt (λ c. cond c (r i j) (other op a b r j i) ≡ cond c (r′ i j) (other op a′ b′ r′ j i)) i j
       (λ l. draw-same i j l hj t) (λ l. back-same j i (omega arith) hi t)
 
-  row-same : (i k : ℕ) → i < n → k < n → T (s i) → row op a b r i k ≡ row op a′ b′ r′ i k
+  pub row-same : (i k : ℕ) → i < n → k < n → T (s i) → row op a b r i k ≡ row op a′ b′ r′ i k
   unfolding row
   row-same i k hi hk t =
       running-cong _ _ k (ap₂ op (ka i t) (kb i t))
@@ -149,7 +149,7 @@ module _ (op : ℕ → ℕ → ℕ) (n : ℕ) (s : ℕ → Bool) (a a′ b b′ 
 -- ---- the rows of the listed places
 
 -- each place of a row has its row kept
-opened : (ps : List Place) → All (λ p. T (opens p) → T (kept-rows ps (seen-a p))) ps
+pub opened : (ps : List Place) → All (λ p. T (opens p) → T (kept-rows ps (seen-a p))) ps
 unfolding kept-rows
 opened [] = done
 opened (p ∷ ps) =
@@ -157,7 +157,7 @@ opened (p ∷ ps) =
     & all-map (λ q f o. or-right (holds p (seen-a q)) (kept-rows ps (seen-a q)) (f o)) (opened ps)
 
 -- what is known of each place's share is known of each row that is kept
-known : (f g : ℕ → ℕ) {ps : List Place} → All (λ p. T (opens p) → f (seen-a p) ≡ g (seen-a p)) ps → (i : ℕ) → T (kept-rows ps i) → f i ≡ g i
+pub known : (f g : ℕ → ℕ) {ps : List Place} → All (λ p. T (opens p) → f (seen-a p) ≡ g (seen-a p)) ps → (i : ℕ) → T (kept-rows ps i) → f i ≡ g i
 unfolding kept-rows
 known f g done i t = absurd t
 known f g (_&_ {x = p} {xs = ps} h hs) i t =
@@ -166,7 +166,7 @@ known f g (_&_ {x = p} {xs = ps} h hs) i t =
     (known f g hs i) t
 
 -- a place of a row sees the same share of b
-seen-both : (s : ℕ → Bool) (f g : ℕ → ℕ) (p : Place) → f (seen-b s p) ≡ g (seen-b s p) → T (opens p) → f (seen-a p) ≡ g (seen-a p)
+pub seen-both : (s : ℕ → Bool) (f g : ℕ → ℕ) (p : Place) → f (seen-b s p) ≡ g (seen-b s p) → T (opens p) → f (seen-a p) ≡ g (seen-a p)
 unfolding opens seen-a seen-b
 seen-both s f g (left i) e o = e
 seen-both s f g (right i) e o = e

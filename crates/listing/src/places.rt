@@ -1,17 +1,7 @@
 // The places of a product by number and name, in document 01's order. Each function prints some lines, beginning with number k, and answers with
 // the number behind its last. A sheet adds the byte at each place; an empty one adds nothing.
 ghost use Prim.Native.Nat.{_≤_};
-use text::hexadecimal;
-
-// The end of a place's line: the byte that the sheet has there, if any. Answers with the next number.
-fn end(k: usize, sheet: &[u8]) -> usize {
-    if k < sheet.len() {
-        text::print(b" ");
-        hexadecimal::print_byte(sheet[k]);
-    }
-    text::print(b"\n");
-    std::num::wrapping_add_usize(k, 1)
-}
+use crate::lines;
 
 // `a_0*b_1`
 fn print_cross(i: usize, j: usize) {
@@ -21,46 +11,39 @@ fn print_cross(i: usize, j: usize) {
 
 // `r(0,1)`
 fn print_draw(i: usize, j: usize) {
-    text::print_with(b"r(", i);
-    text::print_with(b",", j);
-    text::print(b")");
-}
-
-fn start(k: usize) {
-    text::print_number(k);
-    text::print(b" ");
+    lines::print_of(b"r(", i, j);
 }
 
 // `a_0` and so on: the n shares of a factor.
 fn factor(of: &[u8], n: usize, first: usize, sheet: &[u8]) -> usize {
     let mut k = first;
     for i in 0..n {
-        start(k);
+        lines::start(k);
         text::print_with(of, i);
-        k = end(k, sheet);
+        k = lines::end(k, sheet);
     }
     k
 }
 
 fn draw(i: usize, j: usize, k: usize, sheet: &[u8]) -> usize {
-    start(k);
+    lines::start(k);
     print_draw(i, j);
-    end(k, sheet)
+    lines::end(k, sheet)
 }
 
 fn cross(i: usize, j: usize, k: usize, sheet: &[u8]) -> usize {
-    start(k);
+    lines::start(k);
     print_cross(i, j);
-    end(k, sheet)
+    lines::end(k, sheet)
 }
 
 // `r(0,1)^a_0*b_1`
 fn half(i: usize, j: usize, k: usize, sheet: &[u8]) -> usize {
-    start(k);
+    lines::start(k);
     print_draw(i, j);
     text::print(b"^");
     print_cross(i, j);
-    end(k, sheet)
+    lines::end(k, sheet)
 }
 
 // The five places of a pair i < j.
@@ -121,9 +104,9 @@ fn sums(d: usize, i: usize, first: usize, sheet: &[u8]) -> usize
 {
     let mut k = first;
     for m in 0..d + 1 {
-        start(k);
+        lines::start(k);
         print_part(d, i, m);
-        k = end(k, sheet);
+        k = lines::end(k, sheet);
     }
     k
 }
@@ -138,14 +121,19 @@ fn rows(d: usize, first: usize, sheet: &[u8]) -> usize
     k
 }
 
-// All places of a product of order d.
-pub fn print(d: usize, sheet: &[u8]) {
-    if 8 < d {
-        return;
-    }
+// All places of a product of order d, where the first of them has that number.
+pub fn product(d: usize, first: usize, sheet: &[u8])
+    requires { ⌜ d ≤ 8 ⌝ }
+{
     let n = d + 1;
-    let mut k = factor(b"a_", n, 0, sheet);
+    let mut k = factor(b"a_", n, first, sheet);
     k = factor(b"b_", n, k, sheet);
     k = pairs(n, k, sheet);
     rows(d, k, sheet);
+}
+
+pub fn print(d: usize, sheet: &[u8]) {
+    if d <= 8 {
+        product(d, 0, sheet);
+    }
 }

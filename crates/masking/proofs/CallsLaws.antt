@@ -1,7 +1,7 @@
 -- What the tests of a call on two factors say, what is known where they let it through, and what it unpacks of its tape. Assumes nothing.
-use mathlib.Core.Path.{_≡_, refl, sym, ap, _∙_}
-use mathlib.Core.Bool.{Bool, true, false}
-use mathlib.Core.List.{List, _++_}
+use mathlib.Core.Path.{_≡_, sym, ap, _∙_}
+use mathlib.Core.Bool.{true}
+use mathlib.Core.List.{List, [], _∷_, _++_}
 use Prim.Native.Nat.{ℕ, suc, _*_, _≤_}
 use native.Mathlib.Omega.{arith}
 use borrow.Author.Tests.{eqb-true}
@@ -11,12 +11,12 @@ use Rattle.xor.specs.Writes.{front}
 use Rattle.xor.proofs.Tests.{and-true}
 use Rattle.isw.specs.Place.{product-need}
 use Rattle.isw.proofs.OrderLaws.{product-need-bound}
-use Rattle.outcomes.specs.declared.Refusal.the-variants.{Order}
+use Rattle.outcomes.specs.declared.Refusal.the-variants.{Order, Input, Output, Tape}
 use Rattle.outcomes.specs.declared.Count.{Count}
 use Rattle.outcomes.specs.declared.Answer.{Answer}
 use Rattle.outcomes.specs.declared.Answer.the-variants.{Taken}
 use Rattle.outcomes.specs.Outcome.{test, answered, served, reaches}
-use Rattle.outcomes.proofs.OutcomeLaws.{Passed, _and_, answered-here, answered-taken, served-bounds, reaches-le}
+use Rattle.outcomes.proofs.OutcomeLaws.{Passed, _and_, answered-behind, answered-taken, served-bounds, reaches-le}
 use Rattle.tape_words.specs.Words.{bytes-of, words-for}
 use Rattle.tape_words.proofs.WordsLaws.{reach-words}
 use Rattle.tape_words.proofs.FrontLaws.{unpack-fits, made-on-words}
@@ -32,11 +32,9 @@ two-fit-lengths d a b e =
 -- the room counts only where the order is served
 pub factors-answered : (room′ room d a b t o : ℕ) (k : Count) (q : Answer) → (served d ≡ true → room′ ≡ room)
     → q ≡ answered (Factor-tests room′ d a b t o) k → q ≡ answered (Factor-tests room d a b t o) k
-factors-answered room′ room d a b t o k q same e = e ∙ go (served d) refl
-  where
-    go : (u : Bool) → served d ≡ u → answered (Factor-tests room′ d a b t o) k ≡ answered (Factor-tests room d a b t o) k
-    go true p = ap (λ (n : ℕ). answered (Factor-tests n d a b t o) k) (same p)
-    go false p = sym (answered-here Order (served d) _ k p) ∙ answered-here Order (served d) _ k p
+factors-answered room′ room d a b t o k q same e =
+    e ∙ answered-behind Order (served d) _ _ k (λ u. ap
+    (λ (n : ℕ). test Input (two-fit d a b) ∷ test Output (eqb o n) ∷ test Tape (reaches t (words-for (product-need d))) ∷ []) (same u))
 
 -- a call that is let through
 pub record Factors-through (room d a b t o : ℕ) : Type 0 where

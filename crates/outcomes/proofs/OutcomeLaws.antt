@@ -34,6 +34,13 @@ module _ (r : Refusal) (b : Bool) (ts : List Test) (k : Count) where
   unfolding answered
   answered-next e f = simp (e, f)
 
+-- what the others ask counts only where it passes
+pub answered-behind : (r : Refusal) (b : Bool) (ts ts′ : List Test) (k : Count) → (b ≡ true → ts ≡ ts′)
+    → answered (test r b ∷ ts) k ≡ answered (test r b ∷ ts′) k
+unfolding answered
+answered-behind r true ts ts′ k same = ap (λ (l : List Test). answered l k) (same refl)
+answered-behind r false ts ts′ k same = refl
+
 pub answered-none : (k : Count) → Taken k ≡ answered [] k
 unfolding answered
 answered-none k = refl

@@ -14,8 +14,8 @@ use gf256::Antilogs;
 use gf256::Exponent;
 use gf256::Logs;
 
-// Each share of x to the power that is named, into z.
-fn raise(logs: &Logs, antilogs: &Antilogs, which: Exponent, x: &[u8], z: &mut [u8])
+// Each share of x to the power that is named, into z. The sheet of the cube takes its squares from here too.
+pub fn raise(logs: &Logs, antilogs: &Antilogs, which: Exponent, x: &[u8], z: &mut [u8])
     requires { ⌜ (length (now z) ≡ length (now x)) × Tables (now logs) (now antilogs) ⌝ }
     ensures { λ _. ⌜ now (z .exit) ≡ map (raised-to which) (now (x .entry)) ⌝ }
 {

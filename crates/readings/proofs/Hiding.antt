@@ -6,28 +6,27 @@ use mathlib.Core.List.{List, _++_}
 use Prim.Native.Nat.{ℕ, suc, _+_, _*_, _-_, _^_, _≤_}
 use native.Mathlib.Omega.{arith}
 use lib.ListN.{length, take, drop, length-drop}
-use lib.Seq.{length-take-le, take-append-le, drop-append-le, take-at, drop-at}
-use borrow.Author.Tests.{eq-eqb, lt-ltb}
-use Rattle.xor.specs.Lists.{Below, done, _&_}
+use lib.Seq.{length-take-le, take-at, drop-at, take-add}
+use Rattle.xor.specs.Lists.{Below}
 use Rattle.xor.specs.Sums.{joined}
 use Rattle.gf256.specs.Field.{times}
 use Rattle.gf256.proofs.ProductLaws.{times-lt, times-left, times-right}
 use Rattle.isw.specs.Place.{place-count, product-need, product, sheet, listed}
-use Rattle.isw.specs.Hiding.{sums, factor, choice-length, chosen, same, readings, Hides}
+use Rattle.isw.specs.Hiding.{how-many, factor, choice-length, chosen, same, readings, Hides}
 use Rattle.isw.specs.Document03 as Document03
-use Rattle.isw.proofs.CountLaws.{sums-cong, sums-split, sums-times, sums-const, how-many-sums, how-many-all}
+use Rattle.isw.proofs.CountLaws.{sums-cong, how-many-sums}
 use Rattle.isw.proofs.SheetLaws.{sheet-surplus}
 use Rattle.isw.proofs.Hiding.{hides}
 use Rattle.isw.proofs.JoinLaws.{product-joins-all}
 use Rattle.isw.proofs.Document03Laws.{hides-document03}
 use Rattle.outcomes.specs.Outcome as Outcome
 use Rattle.outcomes.specs.Outcome.{took, served}
-use Rattle.outcomes.proofs.OutcomeLaws.{all, _and_, settled-passed, le-reaches}
-use Rattle.tape_words.specs.Words.{bytes-of, words-for}
-use Rattle.tape_words.proofs.WordsLaws.{words-hold}
-use Rattle.readings.specs.Calls.{all-below, Reading-outcome}
-use Rattle.readings.specs.Hiding.{choices, sheet-chosen, word-readings, Words-hide}
-use Rattle.readings.proofs.WordCount.{how-many-words}
+use Rattle.outcomes.proofs.OutcomeLaws.{all, _and_, le-reaches}
+use Rattle.tape_words.specs.Words.{words-for}
+use Rattle.place_lists.proofs.ReadingLaws.{listed-carried}
+use Rattle.choices.proofs.ChoicesLaws.{Heeds-no-surplus, choices-are, choices-alike}
+use Rattle.readings.specs.Calls.{Reading-outcome}
+use Rattle.readings.specs.Hiding.{sheet-chosen, word-readings, Words-hide}
 use Rattle.readings.proofs.ReadingLaws.{two-fit-both}
 
 -- THE HIDING RULE for the field's product, at every order
@@ -45,75 +44,45 @@ bytes-join = product-joins-all times times-left times-right
 -- ---- the same on a tape of words
 
 module _ (d x y : ℕ) (ps rs : List ℕ) where
-  -- a list of masks and a list of drawn bytes give the reading, or not: as a test, and as a count
+  -- a list of masks and a list of drawn bytes give the reading, or not
   abbrev gives : (masks drawn : List ℕ) → Bool
   gives ms ts = same (listed (sheet times d (factor x (take d ms)) (factor y (drop d ms)) ts) ps) rs
 
-  abbrev passes : (masks drawn : List ℕ) → ℕ
-  passes ms ts = cond (gives ms ts) 1 0
-
-  -- what is left over passes with all its values, or with none
-  passes-spare : (s : ℕ) (ms : List ℕ) → sums 256 (product-need d + s) (passes ms) ≡ 256 ^ s * sums 256 (product-need d) (passes ms)
-  passes-spare s ms =
-      sums-split 256 (product-need d) s (passes ms)
-      ∙ sums-cong 256 (product-need d) _ _ (λ us long below.
-      sums-cong 256 s _ _ (λ vs l b. surplus us vs (omega arith)) ∙ sums-const 256 s (passes ms us))
-      ∙ sums-times 256 (product-need d) (256 ^ s) (passes ms)
-    where
-      surplus : (us vs : List ℕ) → product-need d ≤ length us → passes ms (us ++ vs) ≡ passes ms us
-      surplus us vs h =
-          ap (λ (l : List ℕ). cond (same (listed l ps) rs) 1 0) (sheet-surplus times d (factor x (take d ms)) (factor y (drop d ms)) us vs h)
+  gives-surplus : Heeds-no-surplus (product-need d) gives
+  gives-surplus ms us vs h =
+      ap (λ (l : List ℕ). same (listed l ps) rs) (sheet-surplus times d (factor x (take d ms)) (factor y (drop d ms)) us vs h)
 
   -- masks and drawn bytes in one list
-  passes-joined : sums 256 (d + d) (λ ms. sums 256 (product-need d) (passes ms)) ≡ readings times 8 d x y ps rs
+  gives-joined : how-many 256 (d + d + product-need d) (λ cs. gives (take (d + d) cs) (drop (d + d) cs)) ≡ readings times 8 d x y ps rs
   unfolding readings chosen choice-length
-  passes-joined =
-      sums-cong 256 (d + d) _ _ (λ ms long below. sums-cong 256 (product-need d) _ _ (λ us l b. sym (apart ms us long)))
-      ∙ sym (sums-split 256 (d + d) (product-need d) _)
+  gives-joined =
+      how-many-sums 256 (d + d + product-need d) _
+      ∙ sums-cong 256 (d + d + product-need d) _ _ (λ cs long below. ap (λ (b : Bool). cond b 1 0) (apart cs (omega arith)))
       ∙ sym (how-many-sums 256 (d + d + product-need d) _)
     where
-      apart : (ms us : List ℕ) → length ms ≡ d + d
-          → cond
-          (same (listed (sheet times d (factor x (take d (ms ++ us))) (factor y (take d (drop d (ms ++ us)))) (drop (d + d) (ms ++ us))) ps) rs) 1 0
-          ≡ passes ms us
-      apart ms us long =
-          let first : take d (ms ++ us) ≡ take d ms = take-append-le d ms us (omega arith) in
-          let rest : length (drop d ms) ≡ d = length-drop d ms ∙ omega arith in
-          let second : take d (drop d (ms ++ us)) ≡ drop d ms = ap (take d) (drop-append-le d ms us (omega arith)) ∙ take-at (drop d ms) us d rest in
-          let third : drop (d + d) (ms ++ us) ≡ us = drop-at ms us (d + d) long in
-          rw (first, second, third) refl
+      apart : (cs : List ℕ) → d ≤ length cs → gives (take (d + d) cs) (drop (d + d) cs) ≡ same (listed (chosen times d x y cs) ps) rs
+      apart cs h =
+          let two : take (d + d) cs ≡ take d cs ++ take d (drop d cs) = take-add d d cs in
+          let one : length (take d cs) ≡ d = length-take-le d cs h in
+          let left : take d (take (d + d) cs) ≡ take d cs = ap (take d) two ∙ take-at (take d cs) _ d one in
+          let right : drop d (take (d + d) cs) ≡ take d (drop d cs) = ap (drop d) two ∙ drop-at (take d cs) _ d one in
+          rw (left, right) refl
 
   -- a reading is given by as many choices of words as of bytes, times all values of the bytes that are left over
   pub word-readings-are : (n : ℕ) → words-for (product-need d) ≤ n
       → word-readings d n x y ps rs ≡ 256 ^ (4 * n - product-need d) * readings times 8 d x y ps rs
-  unfolding word-readings choices sheet-chosen
+  unfolding word-readings sheet-chosen
   word-readings-are n enough =
-      let s = 4 * n - product-need d in
-      let whole : 4 * n ≡ product-need d + s = omega (arith, words-hold (product-need d)) in
-      sums-cong 256 (d + d) _ _ (λ ms long below.
-      how-many-words n (gives ms) ∙ how-many-sums 256 (4 * n) (gives ms) ∙ ap (λ (k : ℕ). sums 256 k (passes ms)) whole ∙ passes-spare s ms)
-      ∙ sums-times 256 (d + d) (256 ^ s) (λ ms. sums 256 (product-need d) (passes ms))
-      ∙ ap (_*_ (256 ^ s)) passes-joined
+      choices-are (d + d) (product-need d) n gives gives-surplus enough ∙ ap (_*_ (256 ^ (4 * n - product-need d))) gives-joined
 
 -- THE HIDING RULE on a tape of words
 pub words-hide : Words-hide
-unfolding Words-hide Hides
+unfolding Words-hide Hides word-readings sheet-chosen
 words-hide d n ps rs x y v z enough few below hx hy hv hz =
-    word-readings-are d x y ps rs n enough
-    ∙ ap (_*_ (256 ^ (4 * n - product-need d))) (bytes-hide d ps rs x y v z few below hx hy hv hz)
-    ∙ sym (word-readings-are d v z ps rs n enough)
-
--- how many choices there are: 256 to the 2d, times 2^32 to the number of words
-pub choices-all : (d n : ℕ) → choices d n (λ ms ws. true) ≡ 256 ^ (d + d) * (2 ^ 32) ^ n
-unfolding choices
-choices-all d n = sums-cong 256 (d + d) _ _ (λ ms l b. how-many-all (2 ^ 32) n) ∙ sums-const 256 (d + d) ((2 ^ 32) ^ n)
+    choices-alike (d + d) (product-need d) n (gives d x y ps rs) (gives d v z ps rs) (gives-surplus d x y ps rs) (gives-surplus d v z ps rs) enough
+    (gives-joined d x y ps rs ∙ bytes-hide d ps rs x y v z few below hx hy hv hz ∙ sym (gives-joined d v z ps rs))
 
 -- ---- the readings that the hiding rule counts are those of the program
-
-all-below-true : (m : ℕ) {ps : List ℕ} → Below m ps → all-below m ps ≡ true
-unfolding all-below
-all-below-true m done = refl
-all-below-true m (_&_ {x = p} {xs = ps} h hs) = simp (lt-ltb p m h, all-below-true m hs)
 
 -- a call on the shares and the tape of a choice is carried through, and puts out what the choice shows at the listed places
 pub reading-of-choice : (d x y : ℕ) (ms ws ps o : List ℕ) → served d ≡ true → length ms ≡ d + d → words-for (product-need d) ≤ length ws
@@ -124,11 +93,5 @@ unfolding Reading-outcome factor sheet-chosen
 reading-of-choice d x y ms ws ps o order long enough few below room =
     let a : length (take d ms) ≡ d = length-take-le d ms (omega arith) in
     let b : length (drop d ms) ≡ d = length-drop d ms ∙ omega arith in
-    settled-passed _ o _
-    (order
-    and two-fit-both d _ _ (ap suc a) (ap suc b)
-    and le-reaches (length ws) (words-for (product-need d)) enough
-    and eq-eqb (length o) (length ps) room
-    and le-reaches d (length ps) few
-    and all-below-true (place-count d) below
-    and all)
+    listed-carried (place-count d) _ d _ ps o
+    (order and two-fit-both d _ _ (ap suc a) (ap suc b) and le-reaches (length ws) (words-for (product-need d)) enough and all) room few below

@@ -1,5 +1,3 @@
-pub mod WordCount
-pub mod CallsLaws
 pub mod ReadingLaws
 pub mod Hiding
 pub mod Places

@@ -1,20 +1,19 @@
 -- On the same bytes, a product, its sheet and a reading of its places are as they were on a tape of bytes (document 02, wish 6). Assumes nothing.
-use mathlib.Core.Path.{ap}
 use mathlib.Core.List.{List}
 use Prim.Native.Nat.{ℕ, suc, _≤_}
 use lib.ListN.{length}
 use Rattle.gf256.specs.Field.{times}
 use Rattle.isw.specs.Place.{place-count, product-need, product, sheet, listed}
 use Rattle.isw.proofs.SheetLaws.{product-surplus, sheet-surplus}
-use Rattle.outcomes.specs.Outcome.{Test}
-use Rattle.outcomes.proofs.OutcomeLaws.{Passed, _and_, reaches-le}
-use Rattle.tape_words.specs.Words.{words-for}
+use Rattle.outcomes.specs.Outcome.{served}
+use Rattle.outcomes.proofs.OutcomeLaws.{Passed, _and_}
 use Rattle.shares.specs.OnWords.{As-on-bytes}
 use Rattle.shares.proofs.OnWordsLaws.{longer-reaches, on-words}
-use Rattle.masking.specs.Calls.{Factor-tests, Product-outcome}
+use Rattle.masking.specs.Calls.{two-fit, Factor-tests, Product-outcome}
 use Rattle.masking.proofs.CallsLaws.{factors-passed}
 use Rattle.sheets.specs.Calls.{Sheet-outcome}
-use Rattle.readings.specs.Calls.{all-below, Reading-tests, Reading-outcome}
+use Rattle.place_lists.proofs.OnWords.{listed-words}
+use Rattle.readings.specs.Calls.{Reading-outcome}
 
 factors-longer : (room d a b o t t′ : ℕ) → t ≤ t′ → Passed (Factor-tests room d a b t o) → Passed (Factor-tests room d a b t′ o)
 factors-longer room d a b o t t′ h (u and i and r and n and p) = u and i and r and longer-reaches _ t t′ h n and p
@@ -34,19 +33,9 @@ module _ (d : ℕ) (a b o : List ℕ) where
       (λ t p. factors-passed (place-count d) d (length a) (length b) t (length o) p .drawn)
       (factors-longer (place-count d) d (length a) (length b) (length o)) (λ t p. sheet-surplus times d a b)
 
-  module _ (ps : List ℕ) where
-    -- the tests of a reading, by the tape's length
-    abbrev tests : (t : ℕ) → List Test
-    tests t = Reading-tests d (length a) (length b) t (length ps) (length o) (all-below (place-count d) ps)
-
-    reach : (t : ℕ) → Passed (tests t) → words-for (product-need d) ≤ t
-    reach t (u and i and n and p) = reaches-le t _ n
-
-    longer : (t t′ : ℕ) → t ≤ t′ → Passed (tests t) → Passed (tests t′)
-    longer t t′ h (u and i and n and p) = u and i and longer-reaches _ t t′ h n and p
-
-    pub reading-words : As-on-bytes (product-need d) (λ ts. listed (sheet times d a b ts) ps) (λ ws. Reading-outcome d a b ws ps o)
-    unfolding Reading-outcome
-    reading-words =
-        on-words tests (product-need d) o (λ ts. listed (sheet times d a b ts) ps) reach longer
-        (λ t p ts us h. ap (λ (l : List ℕ). listed l ps) (sheet-surplus times d a b ts us h))
+  pub reading-words : (ps : List ℕ)
+      → As-on-bytes (product-need d) (λ ts. listed (sheet times d a b ts) ps) (λ ws. Reading-outcome d a b ws ps o)
+  unfolding Reading-outcome
+  reading-words ps =
+      listed-words (served d) (two-fit d (length a) (length b)) (product-need d) (place-count d) d (sheet times d a b) ps o
+      (λ _. sheet-surplus times d a b)

@@ -13,6 +13,7 @@ use Rattle.outcomes.proofs.OutcomeLaws.{settled-taken}
 use Rattle.tape_words.specs.Words.{bytes-of, words-for}
 use Rattle.masking.specs.Calls.{Product-outcome}
 use Rattle.sheets.specs.Calls.{Sheet-outcome}
+use Rattle.place_lists.proofs.ReadingLaws.{listed-shows}
 use Rattle.readings.specs.Calls.{Reading-outcome}
 
 -- the tape is words, and the steps draw its bytes
@@ -32,7 +33,7 @@ module _ (d : ℕ) (a b ts : List ℕ) where
   pub reading-shows : (ps o : List ℕ) (k : Count) (q : List ℕ) → Reading-outcome d a b ts ps o ≡ done k q
       → (k ≡ took (words-for (product-need d))) × (q ≡ listed (sheet times d a b (bytes-of ts)) ps)
   unfolding Reading-outcome
-  reading-shows ps o k q e = let g = settled-taken _ _ _ _ k q e in (g .1, g .2)
+  reading-shows ps o k q e = listed-shows _ _ _ _ _ ps o k q e
 
   -- THE THREE CALLS on the same shares and tape, where they are carried through: one count, the reading is the sheet at the listed places, and
   -- share i of the product is the sheet's byte at the last place of row i

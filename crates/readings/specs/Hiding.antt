@@ -1,23 +1,17 @@
 -- Demand 3 for bytes on a tape of 32-bit words: d places of a masked product of order d say nothing about its factors (security against d probes).
 -- Document 01, "Places in one product", decides, and that whole words are free, document 02, wish 6. Assumes nothing: these are definitions.
 use mathlib.Core.Path.{_≡_}
-use mathlib.Core.Bool.{Bool}
 use mathlib.Core.List.{List}
-use Prim.Native.Nat.{ℕ, _+_, _^_, _≤_, _<_}
+use Prim.Native.Nat.{ℕ, _+_, _≤_, _<_}
 use lib.ListN.{length, take, drop}
 use Rattle.xor.specs.Lists.{Below}
 use Rattle.gf256.specs.Field.{times}
 use Rattle.isw.specs.Place.{sheet, listed, place-count, product-need}
-use Rattle.isw.specs.Hiding.{how-many, sums, factor, same}
+use Rattle.isw.specs.Hiding.{factor, same}
 use Rattle.tape_words.specs.Words.{bytes-of, words-for}
+use Rattle.choices.specs.Choices.{choices}
 
--- A choice is 2d masks, d of them for a and then d for b, each any byte, and the words of the tape, each any number of 32 bits; none is tied to
--- another. What the product leaves of its last word, and words behind it, are as free as what it draws.
-
--- how many choices (of the randomness) pass a test, on a tape of n words: each list of masks comes once, and with each of them each list of words
--- once
-unfoldable pub choices : (d n : ℕ) (test : (masks words : List ℕ) → Bool) → ℕ
-choices d n test = sums 256 (d + d) (λ ms. how-many (2 ^ 32) n (test ms))
+-- A choice is 2d masks, d of them for a and then d for b, and the words of the tape.
 
 -- the sheet (the transcript) that a choice makes of the factors x and y
 unfoldable pub sheet-chosen : (d x y : ℕ) (masks words : List ℕ) → List ℕ
@@ -25,7 +19,7 @@ sheet-chosen d x y ms ws = sheet times d (factor x (take d ms)) (factor y (drop 
 
 -- how many choices put just the reading's values (the observation) at the listed places (the probes)
 unfoldable pub word-readings : (d n x y : ℕ) (list reading : List ℕ) → ℕ
-word-readings d n x y ps rs = choices d n (λ ms ws. same (listed (sheet-chosen d x y ms ws) ps) rs)
+word-readings d n x y ps rs = choices (d + d) n (λ ms ws. same (listed (sheet-chosen d x y ms ws) ps) rs)
 
 -- THE HIDING RULE: at every order d, on every tape that has the words of a product, for every list of at most d places, every reading and any two
 -- pairs of factors, equally many choices give the reading

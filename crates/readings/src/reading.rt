@@ -1,57 +1,13 @@
-// Reading places: the sheet's bytes at the places that a list of 16-bit numbers names.
+// Reading places: the bytes of a product's sheet at the places that a list of 16-bit numbers names.
 ghost use mathlib.Core.Path.{_≡_};
 ghost use mathlib.Core.Bool.{true};
 ghost use lib.ListN.{length};
 ghost use Rattle.isw.specs.Place as Place;
-ghost use Rattle.outcomes.specs.Outcome.{outcome, answered, served};
-ghost use Rattle.readings.specs.Calls as Calls;
-ghost use Rattle.readings.specs.Calls.{Listed-tests, Reading-outcome};
+ghost use Rattle.outcomes.specs.Outcome.{outcome, served};
+ghost use Rattle.readings.specs.Calls.{Reading-outcome};
 use outcomes::Answer;
-use outcomes::Count;
-use outcomes::Refusal;
 
-// Whether each place of the list is below size.
-fn all_below(size: usize, list: &[u16]) -> bool
-    ensures { λ r. ⌜ r ≡ Calls.all-below size (now (list .entry)) ⌝ }
-{
-    let mut ok = true;
-    for k in 0..list.len() {
-        let p = list[k] as usize;
-        if size <= p {
-            ok = false;
-        }
-    }
-    ok
-}
-
-// The tests that a reading has behind the sheet's, on numbers alone: 4, 6 and 7.
-fn listed_answer(count: Count, order: usize, list: usize, output: usize, below: bool) -> Answer
-    ensures { λ r. ⌜ r ≡ answered (Listed-tests order list output below) count ⌝ }
-{
-    if output != list {
-        return Answer::Refused(Refusal::Output);
-    }
-    if order < list {
-        return Answer::Refused(Refusal::List);
-    }
-    if !below {
-        return Answer::Refused(Refusal::Place);
-    }
-    Answer::Taken(count)
-}
-
-// The bytes of the sheet at the places of the list.
-fn pick_listed(sheet: &[u8], list: &[u16], output: &mut [u8])
-    requires { ⌜ (length (now output) ≡ length (now list)) × (Calls.all-below (length (now sheet)) (now list) ≡ true) ⌝ }
-    ensures { λ _. ⌜ now (output .exit) ≡ Place.listed (now (sheet .entry)) (now (list .entry)) ⌝ }
-{
-    for k in 0..list.len() {
-        let p = list[k] as usize;
-        output[k] = sheet[p];
-    }
-}
-
-// The reading, with room for the sheet, whose refusals 1, 3 and 5 are handed up. All entries are tested before the first byte is written.
+// The reading, with room for the sheet, whose refusals 1, 3 and 5 are handed up.
 fn read_with(
     order: usize,
     left: &[u8],
@@ -69,13 +25,7 @@ fn read_with(
     let Answer::Taken(count) = made else {
         return made;
     };
-    let below = all_below(sheet.len(), list);
-    let answer = listed_answer(count, order, list.len(), output.len(), below);
-    let Answer::Taken(_) = answer else {
-        return answer;
-    };
-    pick_listed(sheet, list, output);
-    answer
+    place_lists::read_listed(count, order, sheet, list, output)
 }
 
 pub fn read_places(

@@ -1,2 +1,3 @@
 pub mod RefreshLaws
+pub mod PlacesLaws
 pub mod OnWords

@@ -5,8 +5,8 @@ use lib.ListN.{length}
 use Rattle.tape_words.specs.Words.{words-for}
 use Rattle.shares.specs.Calls.{Byte-tests}
 use Rattle.shares.specs.OnWords.{As-on-bytes}
-use Rattle.shares.proofs.CallsLaws.{byte-passed}
-use Rattle.shares.proofs.OnWordsLaws.{byte-longer, on-words}
+use Rattle.shares.proofs.CallsLaws.{input-passed}
+use Rattle.shares.proofs.OnWordsLaws.{input-longer, on-words}
 use Rattle.refresh.specs.Refresh.{refreshed, refresh-need}
 use Rattle.refresh.specs.Calls.{Refresh-outcome}
 use Rattle.refresh.proofs.RefreshLaws.{refresh-surplus}
@@ -15,4 +15,4 @@ pub refresh-words : (d : ℕ) (xs o : List ℕ) → As-on-bytes (refresh-need d)
 unfolding Refresh-outcome
 refresh-words d xs o =
     on-words (λ t. Byte-tests (words-for (refresh-need d)) d (length xs) t (length o)) (refresh-need d) o (refreshed d xs)
-    (λ t p. byte-passed _ d (length xs) t (length o) p .drawn) (byte-longer _ d (length xs) (length o)) (λ t p. refresh-surplus d xs)
+    (λ t p. input-passed _ _ d (length xs) t (length o) p .drawn) (input-longer _ _ d (length xs) (length o)) (λ t p. refresh-surplus d xs)

@@ -94,7 +94,7 @@ pairs-refreshed-last ps p xs ts k e =
     pairs-refreshed-append ps (p ∷ []) xs ts
     ∙ ap (λ (t : ℕ). into (into y (p .0) t) (p .1) t) (getD-drop (length ps) ts 0 0 ∙ ap (λ (m : ℕ). getD ts m 0) z)
 
-pairs-refreshed-surplus : (ps : List (ℕ × ℕ)) (xs ts us : List ℕ) → length ps ≤ length ts
+pub pairs-refreshed-surplus : (ps : List (ℕ × ℕ)) (xs ts us : List ℕ) → length ps ≤ length ts
     → pairs-refreshed ps xs (ts ++ us) ≡ pairs-refreshed ps xs ts
 unfolding pairs-refreshed at
 pairs-refreshed-surplus [] xs ts us h = refl
@@ -103,10 +103,10 @@ pairs-refreshed-surplus (p ∷ ps) xs (t ∷ ts) us h = pairs-refreshed-surplus 
 
 -- ---- a row of pairs: share i with the w shares behind it
 
-abbrev row-at : (i m : ℕ) → ℕ × ℕ
+abbrev pub row-at : (i m : ℕ) → ℕ × ℕ
 row-at i m = (i, suc i + m)
 
-abbrev row-pairs : (i w : ℕ) → List (ℕ × ℕ)
+abbrev pub row-pairs : (i w : ℕ) → List (ℕ × ℕ)
 row-pairs i w = tab (row-at i) w
 
 -- one pair, where share i has come to r

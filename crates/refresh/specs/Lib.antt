@@ -1,2 +1,3 @@
 pub mod Refresh
+pub mod Places
 pub mod Calls

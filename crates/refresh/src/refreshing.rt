@@ -1,9 +1,11 @@
 // Mask refresh: one byte is drawn for each pair of shares, and XORed into both. Document 02, wish 7, decides.
 ghost use mathlib.Core.Path.{_≡_};
-ghost use Prim.Native.Nat.{_+_, _≤_, _<_};
+ghost use Prim.Native.Nat.{_≤_, _<_};
 ghost use lib.ListN.{length};
 ghost use Rattle.xor.specs.Lists.{at};
-ghost use Rattle.xor.specs.Running.{row-taken};
+ghost use Rattle.xor.specs.Running.{owns, row-taken};
+ghost use Rattle.xor.specs.Writes.{front};
+ghost use Rattle.pairs.specs.Fits.{Sums-fit};
 ghost use Rattle.outcomes.specs.Outcome.{outcome};
 ghost use Rattle.tape_words.specs.Words.{bytes-of, words-for};
 ghost use Rattle.refresh.specs.Refresh;
@@ -19,15 +21,15 @@ pub fn refresh_need(d: usize) -> usize
     pairs::counting::pair_count(d)
 }
 
-// The pairs of row i with the w shares behind it: each draw goes into share i, and into one of those behind it. Answers with how many bytes were
-// drawn.
-fn refresh_row(i: usize, w: usize, tape: &[u8], x: &mut [u8]) -> usize
-    requires { ⌜ (0 < w) × (i + 1 + w ≤ 9) × (w ≤ length (now tape)) × (i + 1 + w ≤ length (now x)) ⌝ }
+// The pairs of row i with the w shares behind it: each draw goes into share i, whose bytes on the way are left over the front of own, and into one of
+// those behind it. The sheet of a refresh takes its bytes from here too. Answers with how many bytes were drawn.
+pub fn refresh_row(i: usize, w: usize, tape: &[u8], own: &mut [u8], x: &mut [u8]) -> usize
+    requires { ⌜ Sums-fit i w (now tape) (now tape) (now own) (now x) ⌝ }
     ensures { λ r. ⌜ (r ≡ w)
+        × (now (own .exit) ≡ front (owns (now (tape .entry)) (now (x .entry)) i w) (now (own .entry)))
         × (now (x .exit) ≡ row-taken i w (at (now (tape .entry))) (at (now (tape .entry))) (now (x .entry))) ⌝ }
 {
-    let mut own = [0u8; 8];
-    pairs::rows::sum_row(i, w, tape, tape, &mut own, x)
+    pairs::rows::sum_row(i, w, tape, tape, own, x)
 }
 
 // The refresh of the shares of a byte, row by row of the pairs. Answers with how many bytes were drawn.
@@ -35,9 +37,10 @@ pub fn refresh_core(d: usize, tape: &[u8], x: &mut [u8]) -> usize
     requires { ⌜ (d ≤ 8) × (d < length (now x)) × (Refresh.refresh-need d ≤ length (now tape)) ⌝ }
     ensures { λ r. ⌜ (r ≡ Refresh.refresh-need d) × (now (x .exit) ≡ Refresh.refreshed d (now (x .entry)) (now (tape .entry))) ⌝ }
 {
+    let mut own = [0u8; 8];
     let mut drawn: usize = 0;
     for i in 0..d {
-        drawn += refresh_row(i, d - i, &tape[drawn..], x);
+        drawn += refresh_row(i, d - i, &tape[drawn..], &mut own, x);
     }
     drawn
 }

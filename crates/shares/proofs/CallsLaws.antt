@@ -1,5 +1,6 @@
 -- What is known of a call that its tests let through, by the names of the tests. Assumes nothing.
 use mathlib.Core.Path.{_≡_, sym, ap, _∙_}
+use mathlib.Core.Bool.{true}
 use mathlib.Core.List.{List, [], _∷_}
 use Prim.Native.Nat.{ℕ, suc, _*_, _≤_, _<_}
 use lib.Dec.{ltb, eqb}
@@ -11,30 +12,38 @@ use Rattle.outcomes.specs.declared.Answer.the-variants.{Taken}
 use Rattle.outcomes.specs.Outcome.{Test, test, answered, took, served, reaches, share-length}
 use Rattle.tape_words.specs.Words.{words-for}
 use Rattle.shares.specs.Strings.{split-need}
-use Rattle.shares.specs.Calls.{Byte-tests, Split-tests, Join-tests}
-use Rattle.outcomes.proofs.OutcomeLaws.{Passed, _and_, answered-taken, served-bounds, reaches-le}
+use Rattle.shares.specs.Calls.{Input-tests, Split-tests, Join-tests}
+use Rattle.outcomes.proofs.OutcomeLaws.{Passed, _and_, answered-behind, answered-taken, served-bounds, reaches-le}
 
 -- ---- the shares of one byte
 
 -- what the tests of a call answer, by its own need
-pub byte-answered : {bytes : ℕ} (need d x t o : ℕ) (a : Answer) → bytes ≡ need
-    → a ≡ answered (Byte-tests (words-for bytes) d x t o) (took (words-for bytes))
-    → a ≡ answered (Byte-tests (words-for need) d x t o) (took (words-for need))
-byte-answered need d x t o a same e = e ∙ ap (λ (n : ℕ). answered (Byte-tests (words-for n) d x t o) (took (words-for n))) same
+pub input-answered : {bytes : ℕ} (room need d x t o : ℕ) (a : Answer) → bytes ≡ need
+    → a ≡ answered (Input-tests room (words-for bytes) d x t o) (took (words-for bytes))
+    → a ≡ answered (Input-tests room (words-for need) d x t o) (took (words-for need))
+input-answered room need d x t o a same e =
+    e ∙ ap (λ (n : ℕ). answered (Input-tests room (words-for n) d x t o) (took (words-for n))) same
 
-pub record Byte-through (need d x t o : ℕ) : Type 0 where
+-- the room counts only where the order is served
+pub input-room : (room′ room need d x t o : ℕ) (k : Count) (a : Answer) → (served d ≡ true → room′ ≡ room)
+    → a ≡ answered (Input-tests room′ need d x t o) k → a ≡ answered (Input-tests room need d x t o) k
+input-room room′ room need d x t o k a same e =
+    e ∙ answered-behind Order (served d) _ _ k (λ u. ap
+    (λ (m : ℕ). test Input (eqb x (suc d)) ∷ test Output (eqb o m) ∷ test Tape (reaches t need) ∷ []) (same u))
+
+pub record Input-through (room need d x t o : ℕ) : Type 0 where
   pub order : d ≤ 8
   pub input : x ≡ suc d
-  pub output : o ≡ suc d
+  pub output : o ≡ room
   pub drawn : need ≤ t
 
-pub byte-passed : (need d x t o : ℕ) → Passed (Byte-tests need d x t o) → Byte-through need d x t o
-byte-passed need d x t o (u and i and r and n and p) =
-    record { order = served-bounds d u .1; input = eqb-true x (suc d) i; output = eqb-true o (suc d) r; drawn = reaches-le t need n }
+pub input-passed : (room need d x t o : ℕ) → Passed (Input-tests room need d x t o) → Input-through room need d x t o
+input-passed room need d x t o (u and i and r and n and p) =
+    record { order = served-bounds d u .1; input = eqb-true x (suc d) i; output = eqb-true o room r; drawn = reaches-le t need n }
 
-pub byte-through : (need d x t o : ℕ) (a : Answer) (c : Count) → a ≡ answered (Byte-tests need d x t o) (took need) → a ≡ Taken c
-    → Byte-through need d x t o
-byte-through need d x t o a c e f = byte-passed need d x t o (answered-taken _ _ c (sym e ∙ f) .0)
+pub input-through : (room need d x t o : ℕ) (a : Answer) (c : Count) → a ≡ answered (Input-tests room need d x t o) (took need) → a ≡ Taken c
+    → Input-through room need d x t o
+input-through room need d x t o a c e f = input-passed room need d x t o (answered-taken _ _ c (sym e ∙ f) .0)
 
 -- ---- split and join
 

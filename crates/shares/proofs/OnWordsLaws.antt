@@ -13,7 +13,7 @@ use Rattle.outcomes.proofs.LengthsLaws.{share-length-is}
 use Rattle.tape_words.specs.Words.{bytes-of, words-for}
 use Rattle.tape_words.proofs.FrontLaws.{same-front-same, words-surplus}
 use Rattle.shares.specs.Strings.{laid, split, split-need}
-use Rattle.shares.specs.Calls.{Split-tests, Split-outcome, Byte-tests}
+use Rattle.shares.specs.Calls.{Split-tests, Split-outcome, Input-tests}
 use Rattle.shares.specs.OnWords.{As-on-bytes}
 use Rattle.shares.proofs.CallsLaws.{split-passed}
 use Rattle.shares.proofs.StringsLaws.{split-surplus}
@@ -57,5 +57,5 @@ split-words d xs o =
         ap laid (split-surplus d xs ts us (subst (λ (n : ℕ). split-need d n ≤ length ts) (sym l) h))
 
 -- a call on the shares of one byte
-pub byte-longer : (need d x o t t′ : ℕ) → t ≤ t′ → Passed (Byte-tests need d x t o) → Passed (Byte-tests need d x t′ o)
-byte-longer need d x o t t′ h (u and i and r and n and p) = u and i and r and longer-reaches need t t′ h n and p
+pub input-longer : (room need d x o t t′ : ℕ) → t ≤ t′ → Passed (Input-tests room need d x t o) → Passed (Input-tests room need d x t′ o)
+input-longer room need d x o t t′ h (u and i and r and n and p) = u and i and r and longer-reaches need t t′ h n and p

@@ -29,6 +29,16 @@ fn print_refused_on_prepared(r: Refusal) {
     }
 }
 
+// The same for a reading of the cube, whose number of places document 02 puts into cause 7.
+fn print_refused_on_cube(r: Refusal) {
+    match r {
+        Refusal::Place => crate::print(
+            b"refused 7: some listed place number isn't below the cube's number of places\n",
+        ),
+        _ => print_refused(r),
+    }
+}
+
 pub fn print_taken(count: Count) {
     crate::print_with(b"taken ", count.taken);
     crate::print(b"\n");
@@ -51,6 +61,14 @@ pub fn print(a: Answer, output: &[u8]) {
 pub fn print_on_prepared(a: Answer, output: &[u8]) {
     match a {
         Answer::Refused(r) => print_refused_on_prepared(r),
+        _ => print(a, output),
+    }
+}
+
+// The same of a reading of the cube.
+pub fn print_on_cube(a: Answer, output: &[u8]) {
+    match a {
+        Answer::Refused(r) => print_refused_on_cube(r),
         _ => print(a, output),
     }
 }

@@ -1,12 +1,14 @@
 -- Running sums: a sum is its start and the sum of its terms, so two that agree term by term are equal, and its bound; a row of pairs, one pair after
--- another. Assumes nothing.
+-- another, and each share after it. Assumes nothing.
 use mathlib.Core.Path.{_≡_, refl, sym, ap, ap₂, _∙_}
 use mathlib.Core.List.{List}
 use Prim.Native.Nat.{ℕ, zero, suc, _+_, _-_, _^_, _<_}
+use native.Mathlib.Decide.{decLt}
 use native.Mathlib.Numerals.{add-one}
 use native.Mathlib.Omega.{arith}
 use lib.Bits.{bitXor, xor-zero-r, xor-lt}
-use lib.ListN.{length, set, length-set}
+use lib.ListN.{length, getD, set, length-set}
+use lib.Seq.{getD-set-same, getD-set-other}
 use Rattle.xor.specs.Lists.{at, tab}
 use Rattle.xor.specs.Sums.{sum}
 use Rattle.xor.specs.Running.{running, behind-taken, row-taken}
@@ -64,3 +66,47 @@ behind-cong i f g s zero h = refl
 behind-cong i f g s (suc w) h =
     ap₂ (λ (y : List ℕ) (v : ℕ). set y (i + 1 + w) (bitXor (at y (i + 1 + w)) v))
     (behind-cong i f g s w (λ m l. h m (omega arith))) (h w (omega arith))
+
+-- ---- each share after a row
+
+module _ (i : ℕ) (f : ℕ → ℕ) (s : List ℕ) where
+  -- one that the row has not come to
+  pub behind-past : (w j : ℕ) → i + w < j → at (behind-taken i f s w) j ≡ at s j
+  unfolding behind-taken at
+  behind-past zero j h = refl
+  behind-past (suc w) j h = getD-set-other (behind-taken i f s w) (i + 1 + w) j _ 0 (omega arith) ∙ behind-past w j (omega arith)
+
+  -- one that has taken in its term
+  pub behind-at : (w m : ℕ) → m < w → i + w < length s → at (behind-taken i f s w) (i + 1 + m) ≡ bitXor (at s (i + 1 + m)) (f m)
+  unfolding behind-taken at
+  behind-at zero m h g = absurd (omega arith)
+  behind-at (suc w) m h g = go (decLt m w) (λ l. behind-at w m l (omega arith))
+    where
+      go : Dec (m < w) → (m < w → getD (behind-taken i f s w) (i + 1 + m) 0 ≡ bitXor (getD s (i + 1 + m) 0) (f m))
+          → getD (set (behind-taken i f s w) (i + 1 + w) (bitXor (getD (behind-taken i f s w) (i + 1 + w) 0) (f w))) (i + 1 + m) 0
+          ≡ bitXor (getD s (i + 1 + m) 0) (f m)
+      go (yes l) ih = getD-set-other (behind-taken i f s w) (i + 1 + w) (i + 1 + m) _ 0 (omega arith) ∙ ih l
+      go (no l) ih =
+          let e : m ≡ w = omega arith in
+          rw e
+          (getD-set-same (behind-taken i f s w) (i + 1 + w) _ 0 (omega (arith, length-behind i f s w))
+          ∙ ap (λ (x : ℕ). bitXor x (f w)) (behind-past w (i + 1 + w) (omega arith)))
+
+module _ (i w : ℕ) (r f : ℕ → ℕ) (s : List ℕ) where
+  pub length-row-taken : length (row-taken i w r f s) ≡ length s
+  unfolding row-taken
+  length-row-taken = length-set (behind-taken i f s w) i (running (at s i) r w) ∙ length-behind i f s w
+
+  -- share i itself
+  pub at-row-taken : i < length s → at (row-taken i w r f s) i ≡ running (at s i) r w
+  unfolding row-taken at
+  at-row-taken h = getD-set-same (behind-taken i f s w) i (running (getD s i 0) r w) 0 (omega (arith, length-behind i f s w))
+
+  -- one that the row has not come to, and one that has taken in its term
+  pub row-taken-past : (j : ℕ) → i + w < j → at (row-taken i w r f s) j ≡ at s j
+  unfolding row-taken at
+  row-taken-past j h = getD-set-other (behind-taken i f s w) i j (running (getD s i 0) r w) 0 (omega arith) ∙ behind-past i f s w j h
+
+  pub row-taken-at : (m : ℕ) → m < w → i + w < length s → at (row-taken i w r f s) (i + 1 + m) ≡ bitXor (at s (i + 1 + m)) (f m)
+  unfolding row-taken at
+  row-taken-at m h g = getD-set-other (behind-taken i f s w) i (i + 1 + m) _ 0 (omega arith) ∙ behind-at i f s w m h g

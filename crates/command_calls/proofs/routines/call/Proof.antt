@@ -9,7 +9,8 @@ use types.Run.{OneOf, miss}
 use Rattle.outcomes.specs.Outcome.{Outcome, refused}
 use Rattle.command_line.specs.declared.commands.Command.{Command}
 use Rattle.command_line.specs.declared.commands.Command.the-variants.{Encrypt, Decrypt, Prepare, EncryptPrepared, Split, Join, Refresh, Product}
-use Rattle.command_line.specs.declared.commands.Command.the-variants.{Sbox, Read, Sheet, Places, Tape, Preview, Help, Unknown}
+use Rattle.command_line.specs.declared.commands.Command.the-variants.{Sbox, Read, Sheet, Places, ReadCube, CubeSheet, CubePlaces}
+use Rattle.command_line.specs.declared.commands.Command.the-variants.{Tape, Preview, Help, Unknown}
 use Rattle.command_line.proofs.commands.Command.{the-type}
 use Rattle.command_calls.specs.Called.{called}
 use Rattle.command_calls.proofs.routines.call.Statement.{statement}
@@ -17,7 +18,7 @@ use Rattle.command_calls.proofs.routines.call.Tie as tie
 
 -- the numbers of the commands that call no routine of this form
 abbrev rest : List ℕ
-rest = 9 ∷ 10 ∷ 11 ∷ 12 ∷ 13 ∷ 14 ∷ 15 ∷ []
+rest = 9 ∷ 10 ∷ 11 ∷ 12 ∷ 13 ∷ 14 ∷ 15 ∷ 16 ∷ 17 ∷ 18 ∷ []
 
 others : (k : Command) → OneOf rest (tagOf the-type k) → (d : ℕ) (x y t o : List ℕ) → called k d x y t o ≡ refused 1 o
 others Encrypt h d x y t o = absurd (miss rest 0 tt h)
@@ -32,6 +33,9 @@ others Sbox h d x y t o = absurd (miss rest 8 tt h)
 others Read h d x y t o = refl
 others Sheet h d x y t o = refl
 others Places h d x y t o = refl
+others ReadCube h d x y t o = refl
+others CubeSheet h d x y t o = refl
+others CubePlaces h d x y t o = refl
 others Tape h d x y t o = refl
 others Preview h d x y t o = refl
 others Help h d x y t o = refl

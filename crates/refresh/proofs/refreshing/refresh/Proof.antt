@@ -10,7 +10,7 @@ use lib.ListN.{length}
 use Rattle.outcomes.specs.Outcome.{took}
 use Rattle.outcomes.proofs.OutcomeLaws.{settled-refused, settled-done}
 use Rattle.tape_words.specs.Words.{bytes-of}
-use Rattle.shares.proofs.CallsLaws.{byte-answered, byte-through}
+use Rattle.shares.proofs.CallsLaws.{input-answered, input-through}
 use Rattle.xor.proofs.WriteLaws.{front-all}
 use Rattle.refresh.specs.Calls.{Refresh-outcome}
 use Rattle.refresh.specs.Refresh.{refreshed, refresh-need}
@@ -32,7 +32,7 @@ unfolding Refresh-outcome
 returns c =
     let q = c .before .before in
     let v = q .before .before .before .before .args in
-    let e = byte-answered (refresh-need (v .order)) (v .order) (length (now (v .input))) (length (now (v .tape))) (length (now (v .output))) _
+    let e = input-answered _ (refresh-need (v .order)) (v .order) (length (now (v .input))) (length (now (v .tape))) (length (now (v .output))) _
     (one-mul _ ∙ sym (refresh-need-pairs (v .order))) (q .byte-answer .ensures) in
     settled-refused _ _ _ _ _ e _ (c .enum-told2 .given .1)
 
@@ -41,9 +41,10 @@ put-requires c κs =
     let told = c .before in
     let q = told .before .before in
     let v = q .before .before .before .before .args in
-    let e = byte-answered (refresh-need (v .order)) (v .order) (length (now (v .input))) (length (now (v .tape))) (length (now (v .output))) _
+    let e = input-answered _ (refresh-need (v .order)) (v .order) (length (now (v .input))) (length (now (v .tape))) (length (now (v .output))) _
     (one-mul _ ∙ sym (refresh-need-pairs (v .order))) (q .byte-answer .ensures) in
-    let h = byte-through _ (v .order) (length (now (v .input))) (length (now (v .tape))) (length (now (v .output))) _ _ e (told .enum-told .given .1) in
+    let h = input-through _ _ (v .order) (length (now (v .input))) (length (now (v .tape))) (length (now (v .output))) _ _ e
+    (told .enum-told .given .1) in
     omega (arith, h .input, h .output)
 
 refresh-on-words-requires : tie.Need-refresh-on-words-requires
@@ -52,9 +53,10 @@ refresh-on-words-requires c κs =
     let told = put .before .before in
     let q = told .before .before in
     let v = q .before .before .before .before .args in
-    let e = byte-answered (refresh-need (v .order)) (v .order) (length (now (v .input))) (length (now (v .tape))) (length (now (v .output))) _
+    let e = input-answered _ (refresh-need (v .order)) (v .order) (length (now (v .input))) (length (now (v .tape))) (length (now (v .output))) _
     (one-mul _ ∙ sym (refresh-need-pairs (v .order))) (q .byte-answer .ensures) in
-    let h = byte-through _ (v .order) (length (now (v .input))) (length (now (v .tape))) (length (now (v .output))) _ _ e (told .enum-told .given .1) in
+    let h = input-through _ _ (v .order) (length (now (v .input))) (length (now (v .tape))) (length (now (v .output))) _ _ e
+    (told .enum-told .given .1) in
     let l = put .put .kept .1 .0 in
     (h .order, omega (arith, h .output, l), h .drawn)
 
@@ -69,9 +71,10 @@ returns-2 c =
     let told = put .before .before in
     let q = told .before .before in
     let v = q .before .before .before .before .args in
-    let e = byte-answered (refresh-need (v .order)) (v .order) (length (now (v .input))) (length (now (v .tape))) (length (now (v .output))) _
+    let e = input-answered _ (refresh-need (v .order)) (v .order) (length (now (v .input))) (length (now (v .tape))) (length (now (v .output))) _
     (one-mul _ ∙ sym (refresh-need-pairs (v .order))) (q .byte-answer .ensures) in
-    let h = byte-through _ (v .order) (length (now (v .input))) (length (now (v .tape))) (length (now (v .output))) _ _ e (told .enum-told .given .1) in
+    let h = input-through _ _ (v .order) (length (now (v .input))) (length (now (v .tape))) (length (now (v .output))) _ _ e
+    (told .enum-told .given .1) in
     let m = put .put .ensures ∙ front-all (now (v .input)) (now (v .output)) (h .input ∙ sym (h .output)) in
     let p = core .refresh-on-words .ensures in
     settled-done _ _ _ _ _ e _ _ _ (told .enum-told .given .1) (ap took (p .0))

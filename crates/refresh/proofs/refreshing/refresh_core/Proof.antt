@@ -14,16 +14,16 @@ use Rattle.refresh.proofs.refreshing.refresh_core.Statement.{statement}
 use Rattle.refresh.proofs.refreshing.refresh_core.Tie as tie
 
 abbrev Inv-loop : tie.InvT-loop
-Inv-loop d tape x₀ drawn₀ i₀ x drawn i =
-    (i ≤ d) × (drawn ≡ before-row (suc d) i) × (before-row (suc d) i ≤ refresh-need d) × (length x ≡ length x₀)
+Inv-loop d tape x₀ own₀ drawn₀ i₀ x own drawn i =
+    (i ≤ d) × (drawn ≡ before-row (suc d) i) × (before-row (suc d) i ≤ refresh-need d) × (length x ≡ length x₀) × (length own ≡ 8)
     × (x ≡ rows-refreshed (suc d) i x₀ tape)
 
 abbrev μ-loop : tie.MeasureT-loop
-μ-loop d tape x₀ drawn₀ i₀ x drawn i = d - i
+μ-loop d tape x₀ own₀ drawn₀ i₀ x own drawn i = d - i
 
 loop-holds : tie.Need-loop-holds Inv-loop μ-loop
 unfolding before-row
-loop-holds c = (search needs, refl, search needs, refl, rows-none _ _ _)
+loop-holds c = (search needs, refl, search needs, refl, refl, rows-none _ _ _)
 
 sub-refresh-row : tie.Need-sub-refresh-row Inv-loop μ-loop
 sub-refresh-row c = search needs
@@ -37,25 +37,38 @@ part-refresh-row-start c = search needs
 part-refresh-row-end : tie.Need-part-refresh-row-end Inv-loop μ-loop
 part-refresh-row-end c = search needs
 
+slice-aggregate-refresh-row : tie.Need-slice-aggregate-refresh-row Inv-loop μ-loop
+slice-aggregate-refresh-row c = search needs
+
 refresh-row-requires : tie.Need-refresh-row-requires Inv-loop μ-loop
 refresh-row-requires c κs =
-    let turn = c .before .before .before in
+    let at-loop-test = c .before .before .before in
+    let turn = at-loop-test .before in
     let start = turn .before .before .before in
     let l = turn .loop in
     let d = start .args .d in
-    let r = row-counts d (l .i) (l .drawn) (c .before .before .loop-test .taken) (l .inv .1) in
+    let r = row-counts d (l .i) (l .drawn) (at-loop-test .loop-test .taken) (l .inv .1) in
     let n = refresh-need-pairs d in
     let e = length-part-rest (now (start .args .tape)) (l .drawn) in
-    (omega arith, omega arith, rw e (omega (arith, start .pre)), omega (arith, start .pre, l .inv .3))
+    record {
+      some = omega arith;
+      few = omega arith;
+      drawn = rw e (omega (arith, start .pre));
+      backs = rw e (omega (arith, start .pre));
+      owns = omega (arith, start .pre .0, l .inv .4);
+      summed = omega (arith, start .pre, l .inv .3);
+    }
 
 add-drawn : tie.Need-add-drawn Inv-loop μ-loop
 add-drawn c =
-    let turn = c .before .before .before .before .before .before in
+    let at-row = c .before .before .before in
+    let at-loop-test = at-row .before .before .before .before in
+    let turn = at-loop-test .before in
     let start = turn .before .before .before in
     let l = turn .loop in
     let d = start .args .d in
-    let r = row-counts d (l .i) (l .drawn) (c .before .before .before .before .before .loop-test .taken) (l .inv .1) in
-    omega (arith, c .before .before .refresh-row .ensures .0, start .pre .2, refresh-need-pairs d)
+    let r = row-counts d (l .i) (l .drawn) (at-loop-test .loop-test .taken) (l .inv .1) in
+    omega (arith, at-row .refresh-row .ensures .0, start .pre .2, refresh-need-pairs d)
 
 add-i : tie.Need-add-i Inv-loop μ-loop
 add-i c = search needs
@@ -65,20 +78,24 @@ loop-less c = search needs
 
 loop-again : tie.Need-loop-again Inv-loop μ-loop
 loop-again c =
-    let turn = c .before .before .before .before .before .before in
+    let at-own = c .before .before in
+    let at-row = at-own .before in
+    let at-loop-test = at-row .before .before .before .before in
+    let turn = at-loop-test .before in
     let start = turn .before .before .before in
     let l = turn .loop in
     let v = start .args in
     let ts = now (v .tape) in
-    let t = c .before .before .refresh-row .ensures in
-    let h = c .before .before .before .before .before .loop-test .taken in
+    let t = at-row .refresh-row .ensures in
+    let h = at-loop-test .loop-test .taken in
     let r = row-counts (v .d) (l .i) (l .drawn) h (l .inv .1) in
     let f = part-rest ts (l .drawn) ∙ ap (λ (k : ℕ). drop k ts) (l .inv .1) in (
       r .0,
       ap (_+_ (l .drawn)) (t .0) ∙ r .1,
       omega (arith, r .2, refresh-need-pairs (v .d)),
       c .before .x .given ∙ l .inv .3,
-      rows-next (v .d) (l .i) (l .x) _ _ (now (v .x)) ts h (start .pre .1) f (l .inv .4) (t .1),
+      at-own .own2 .given,
+      rows-next (v .d) (l .i) (l .x) _ _ (now (v .x)) ts h (start .pre .1) f (l .inv .5) (t .2),
     )
 
 same-length : tie.Need-same-length Inv-loop μ-loop
@@ -91,7 +108,7 @@ returns c =
     let d = start .args .d in
     let e : l .i ≡ d = omega arith in
     let z : l .drawn ≡ before-row (suc d) d = rw e at (l .inv .1) in
-    (z ∙ sym (pair-count-last d) ∙ sym (refresh-need-pairs d), (rw e at (l .inv .4)) ∙ rows-all d _ _)
+    (z ∙ sym (pair-count-last d) ∙ sym (refresh-need-pairs d), (rw e at (l .inv .5)) ∙ rows-all d _ _)
 
 pub refresh-core-spec : {M : Type 1} → statement M
 refresh-core-spec =
@@ -104,6 +121,7 @@ refresh-core-spec =
     sub-refresh-row-2
     part-refresh-row-start
     part-refresh-row-end
+    slice-aggregate-refresh-row
     refresh-row-requires
     add-drawn
     add-i

@@ -9,7 +9,7 @@ use lib.ListN.{length}
 use Rattle.gf256.specs.Tables.{lent}
 use Rattle.outcomes.specs.Outcome.{took}
 use Rattle.outcomes.proofs.OutcomeLaws.{settled-refused, settled-done}
-use Rattle.shares.proofs.CallsLaws.{byte-answered, byte-through}
+use Rattle.shares.proofs.CallsLaws.{input-answered, input-through}
 use Rattle.xor.proofs.WriteLaws.{front-all}
 use Rattle.tape_words.specs.Words.{bytes-of}
 use Rattle.tape_words.proofs.WordsLaws.{words-reach}
@@ -33,7 +33,7 @@ unfolding Box-outcome
 returns c =
     let q = c .before .before in
     let v = q .before .before .before .before .args in
-    let e = byte-answered (box-need (v .order)) (v .order) (length (now (v .input))) (length (now (v .tape))) (length (now (v .output))) _
+    let e = input-answered _ (box-need (v .order)) (v .order) (length (now (v .input))) (length (now (v .tape))) (length (now (v .output))) _
     (sym (power-need-pairs (v .order))) (q .byte-answer .ensures) in
     settled-refused _ _ _ _ _ e _ (c .enum-told2 .given .1)
 
@@ -42,9 +42,10 @@ put-requires c κs =
     let told = c .before in
     let q = told .before .before in
     let v = q .before .before .before .before .args in
-    let e = byte-answered (box-need (v .order)) (v .order) (length (now (v .input))) (length (now (v .tape))) (length (now (v .output))) _
+    let e = input-answered _ (box-need (v .order)) (v .order) (length (now (v .input))) (length (now (v .tape))) (length (now (v .output))) _
     (sym (power-need-pairs (v .order))) (q .byte-answer .ensures) in
-    let h = byte-through _ (v .order) (length (now (v .input))) (length (now (v .tape))) (length (now (v .output))) _ _ e (told .enum-told .given .1) in
+    let h = input-through _ _ (v .order) (length (now (v .input))) (length (now (v .tape))) (length (now (v .output))) _ _ e
+    (told .enum-told .given .1) in
     omega (arith, h .input, h .output)
 
 logs-requires : tie.Need-logs-requires
@@ -61,9 +62,10 @@ box-on-words-requires c κs =
     let told = put .before .before in
     let q = told .before .before in
     let v = q .before .before .before .before .args in
-    let e = byte-answered (box-need (v .order)) (v .order) (length (now (v .input))) (length (now (v .tape))) (length (now (v .output))) _
+    let e = input-answered _ (box-need (v .order)) (v .order) (length (now (v .input))) (length (now (v .tape))) (length (now (v .output))) _
     (sym (power-need-pairs (v .order))) (q .byte-answer .ensures) in
-    let h = byte-through _ (v .order) (length (now (v .input))) (length (now (v .tape))) (length (now (v .output))) _ _ e (told .enum-told .given .1) in
+    let h = input-through _ _ (v .order) (length (now (v .input))) (length (now (v .tape))) (length (now (v .output))) _ _ e
+    (told .enum-told .given .1) in
     let l = put .put .kept .1 .0 in (
       record { order = h .order; long = omega (arith, h .output, l); drawn = words-reach _ (now (v .tape)) (h .drawn) },
       lent (logs .logs .ensures) (antilogs .antilogs .ensures),
@@ -80,9 +82,10 @@ returns-2 c =
     let told = put .before .before in
     let q = told .before .before in
     let v = q .before .before .before .before .args in
-    let e = byte-answered (box-need (v .order)) (v .order) (length (now (v .input))) (length (now (v .tape))) (length (now (v .output))) _
+    let e = input-answered _ (box-need (v .order)) (v .order) (length (now (v .input))) (length (now (v .tape))) (length (now (v .output))) _
     (sym (power-need-pairs (v .order))) (q .byte-answer .ensures) in
-    let h = byte-through _ (v .order) (length (now (v .input))) (length (now (v .tape))) (length (now (v .output))) _ _ e (told .enum-told .given .1) in
+    let h = input-through _ _ (v .order) (length (now (v .input))) (length (now (v .tape))) (length (now (v .output))) _ _ e
+    (told .enum-told .given .1) in
     let m = put .put .ensures ∙ front-all (now (v .input)) (now (v .output)) (h .input ∙ sym (h .output)) in
     let p = core .box-on-words .ensures in
     settled-done _ _ _ _ _ e _ _ _ (told .enum-told .given .1) (ap took (p .0))

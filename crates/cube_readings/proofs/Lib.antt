@@ -1,0 +1,5 @@
+pub mod ReadingLaws
+pub mod Hiding
+pub mod Places
+pub mod OnWords
+pub mod Example

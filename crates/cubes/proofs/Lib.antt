@@ -1,0 +1,2 @@
+pub mod CubeParts
+pub mod CallsLaws

@@ -1,0 +1,12 @@
+pub mod PicksLaws
+pub mod CouplingLaws
+pub mod StepsLaws
+pub mod GadgetsLaws
+pub mod RouteLaws
+pub mod ProductStrong
+pub mod EachOnceLaws
+pub mod RefreshStrong
+pub mod ChainLaws
+pub mod CubeStrong
+pub mod CubeLaws
+pub mod CubeHides

@@ -1,0 +1,152 @@
+-- Membership in a list; a list of place numbers cut in two where one sheet ends and the next begins; and the share that each place of a step on
+-- each share by itself sees. Assumes nothing.
+use mathlib.Core.Path.{_≡_, refl, sym, ap, subst, _∙_}
+use mathlib.Core.Bool.{Bool, false, cond, _||_}
+use mathlib.Core.List.{List, [], _∷_, _++_}
+use Prim.Native.Nat.{ℕ, zero, suc, _+_, _-_, _*_, _≤_, _<_}
+use native.Mathlib.Decide.{decLt}
+use native.Mathlib.Nat.{suc-mul, zero-mul}
+use native.Mathlib.Omega.{arith}
+use lib.Dec.{T, ltb, eqb, eqb→eq, eqb-refl}
+use lib.ListN.{length, getD, length-append, List·getD-append}
+use lib.Seq.{getD-append-add}
+use Rattle.xor.specs.Lists.{at, All, done, _&_, Below}
+use Rattle.xor.proofs.ListsLaws.{all-map, all-head, all-tail}
+use Rattle.xor.proofs.Tests.{by-lt, or-left, or-right, or-cases}
+use Rattle.gadgets.specs.Steps.{each-share}
+
+-- ---- membership
+
+-- is a number in a list
+unfoldable pub has : List ℕ → ℕ → Bool
+has [] i = false
+has (x ∷ xs) i = eqb x i || has xs i
+
+pub all-has : (P : ℕ → Type 0) {l : List ℕ} → All P l → (i : ℕ) → T (has l i) → P i
+unfolding has
+all-has P done i t = absurd t
+all-has P (_&_ {x = x} {xs = xs} h hs) i t = or-cases (eqb x i) (has xs i) (λ u. subst P (eqb→eq x i u) h) (all-has P hs i) t
+
+pub has-all : (l : List ℕ) → All (λ i. T (has l i)) l
+unfolding has
+has-all [] = done
+has-all (x ∷ xs) = or-left (eqb x x) (has xs x) (eqb-refl x) & all-map (λ i t. or-right (eqb x i) (has xs i) t) (has-all xs)
+
+-- ---- place numbers before k, and those from k on, counted from there
+
+-- of the first sheet, which has k places
+unfoldable pub before : (k : ℕ) → List ℕ → List ℕ
+before k [] = []
+before k (p ∷ ps) = cond (ltb p k) (p ∷ before k ps) (before k ps)
+
+-- of the second
+unfoldable pub beyond : (k : ℕ) → List ℕ → List ℕ
+beyond k [] = []
+beyond k (p ∷ ps) = cond (ltb p k) (beyond k ps) ((p - k) ∷ beyond k ps)
+
+pub cut-count : (k : ℕ) (ps : List ℕ) → length (before k ps) + length (beyond k ps) ≡ length ps
+unfolding before beyond
+cut-count k [] = refl
+cut-count k (p ∷ ps) =
+    by-lt (λ c. length (cond c (p ∷ before k ps) (before k ps)) + length (cond c (beyond k ps) ((p - k) ∷ beyond k ps)) ≡ suc (length ps)) p k
+    (λ l. omega (arith, cut-count k ps)) (λ l. omega (arith, cut-count k ps))
+
+pub before-below : (k : ℕ) (ps : List ℕ) → Below k (before k ps)
+unfolding before
+before-below k [] = done
+before-below k (p ∷ ps) = by-lt (λ c. Below k (cond c (p ∷ before k ps) (before k ps))) p k (λ l. l & before-below k ps) (λ l. before-below k ps)
+
+pub beyond-below : (k m : ℕ) {ps : List ℕ} → Below (k + m) ps → Below m (beyond k ps)
+unfolding beyond
+beyond-below k m done = done
+beyond-below k m (_&_ {x = p} {xs = ps} h hs) =
+    by-lt (λ c. Below m (cond c (beyond k ps) ((p - k) ∷ beyond k ps))) p k (λ l. beyond-below k m hs) (λ l. omega arith & beyond-below k m hs)
+
+-- two sheets, each of two parts
+pub cut-same : (k : ℕ) (xs xs′ ys ys′ : List ℕ) → length xs ≡ k → length xs′ ≡ k → (ps : List ℕ)
+    → All (λ p. at xs p ≡ at xs′ p) (before k ps) → All (λ p. at ys p ≡ at ys′ p) (beyond k ps) → All (λ p. at (xs ++ ys) p ≡ at (xs′ ++ ys′) p) ps
+unfolding before beyond at
+cut-same k xs xs′ ys ys′ e e′ [] h g = done
+cut-same k xs xs′ ys ys′ e e′ (p ∷ ps) h g =
+    by-lt (λ c. All (λ p. getD xs p 0 ≡ getD xs′ p 0) (cond c (p ∷ before k ps) (before k ps))
+    → All (λ p. getD ys p 0 ≡ getD ys′ p 0) (cond c (beyond k ps) ((p - k) ∷ beyond k ps))
+    → All (λ p. getD (xs ++ ys) p 0 ≡ getD (xs′ ++ ys′) p 0) (p ∷ ps)) p k
+    (λ l h g. first l (all-head h) & cut-same k xs xs′ ys ys′ e e′ ps (all-tail h) g)
+    (λ l h g. second l (all-head g) & cut-same k xs xs′ ys ys′ e e′ ps h (all-tail g)) h g
+  where
+    first : p < k → getD xs p 0 ≡ getD xs′ p 0 → getD (xs ++ ys) p 0 ≡ getD (xs′ ++ ys′) p 0
+    first l q = List·getD-append xs ys 0 p (omega arith) ∙ q ∙ sym (List·getD-append xs′ ys′ 0 p (omega arith))
+
+    second : k ≤ p → getD ys (p - k) 0 ≡ getD ys′ (p - k) 0 → getD (xs ++ ys) p 0 ≡ getD (xs′ ++ ys′) p 0
+    second l q =
+        let u : p ≡ length xs + (p - k) = omega arith in
+        let u′ : length xs′ + (p - k) ≡ p = omega arith in
+        ap (λ (n : ℕ). getD (xs ++ ys) n 0) u ∙ getD-append-add xs ys (p - k) 0 ∙ q ∙ sym (getD-append-add xs′ ys′ (p - k) 0)
+        ∙ ap (λ (n : ℕ). getD (xs′ ++ ys′) n 0) u′
+
+-- ---- a sheet of what is computed share by share: each of its places sees one share
+
+module _ {A : Type 0} (e : A) (m : ℕ) (g : ℕ → A → List ℕ) (long : (i : ℕ) (x : A) → length (g i x) ≡ m) where
+  pub length-each : (i : ℕ) (xs : List A) → length (each-share g i xs) ≡ length xs * m
+  unfolding each-share
+  length-each i [] = sym (zero-mul m)
+  length-each i (x ∷ xs) = length-append (g i x) (each-share g (suc i) xs) ∙ omega (arith, long i x, length-each (suc i) xs, suc-mul (length xs) m)
+
+  -- place p of a sheet of n shares sees share j: it shows the same where that share is the same
+  Sees : (p n j : ℕ) → Type 0
+  Sees p n j =
+      (i : ℕ) (xs xs′ : List A) → length xs ≡ n → length xs′ ≡ n → getD xs j e ≡ getD xs′ j e → at (each-share g i xs) p ≡ at (each-share g i xs′) p
+
+  near : (n p : ℕ) → p < m → Sees p (suc n) 0
+  unfolding Sees each-share at
+  near n p l i [] xs′ q q′ s = absurd (omega arith)
+  near n p l i (x ∷ xs) [] q q′ s = absurd (omega arith)
+  near n p l i (x ∷ xs) (x′ ∷ xs′) q q′ s =
+      List·getD-append (g i x) (each-share g (suc i) xs) 0 p (omega (arith, long i x))
+      ∙ ap (λ (y : A). getD (g i y) p 0) s
+      ∙ sym (List·getD-append (g i x′) (each-share g (suc i) xs′) 0 p (omega (arith, long i x′)))
+
+  past : (p : ℕ) → m ≤ p → (i : ℕ) (x : A) (xs : List A) → at (g i x ++ each-share g (suc i) xs) p ≡ at (each-share g (suc i) xs) (p - m)
+  unfolding at
+  past p l i x xs =
+      let u : p ≡ length (g i x) + (p - m) = omega (arith, long i x) in
+      ap (λ (n : ℕ). getD (g i x ++ each-share g (suc i) xs) n 0) u ∙ getD-append-add (g i x) (each-share g (suc i) xs) (p - m) 0
+
+  far : (n p j : ℕ) → m ≤ p → Sees (p - m) n j → Sees p (suc n) (suc j)
+  unfolding Sees each-share
+  far n p j l f i [] xs′ q q′ s = absurd (omega arith)
+  far n p j l f i (x ∷ xs) [] q q′ s = absurd (omega arith)
+  far n p j l f i (x ∷ xs) (x′ ∷ xs′) q q′ s = past p l i x xs ∙ f (suc i) xs xs′ (omega arith) (omega arith) s ∙ sym (past p l i x′ xs′)
+
+  -- the share that a place sees
+  owner : (n p : ℕ) → p < n * m → (j : ℕ) × (j < n) × Sees p n j
+  owner zero p h = absurd (omega (arith, zero-mul m))
+  owner (suc n) p h = go (decLt p m) (λ l. owner n (p - m) (omega (arith, suc-mul n m)))
+    where
+      go : Dec (p < m) → (m ≤ p → (j : ℕ) × (j < n) × Sees (p - m) n j) → (j : ℕ) × (j < suc n) × Sees p (suc n) j
+      go (yes l) r = (0, omega arith, near n p l)
+      go (no l) r =
+          let k : m ≤ p = omega arith in
+          let (j, b, f) = r k in
+          (suc j, omega arith, far n p j k f)
+
+  -- the shares that places see
+  pub record Owners (n : ℕ) (ps : List ℕ) : Type 0 where
+    pub shares : List ℕ
+    pub as-many : length shares ≡ length ps
+    pub among : Below n shares
+    pub show : (i : ℕ) (xs xs′ : List A) → length xs ≡ n → length xs′ ≡ n → All (λ j. getD xs j e ≡ getD xs′ j e) shares
+        → All (λ p. at (each-share g i xs) p ≡ at (each-share g i xs′) p) ps
+
+  pub owners : (n : ℕ) {ps : List ℕ} → Below (n * m) ps → Owners n ps
+  unfolding Sees
+  owners n done = record { shares = []; as-many = refl; among = done; show = λ i xs xs′ q q′ h. done }
+  owners n (_&_ {x = p} h hs) =
+      let (j, b, f) = owner n p h in
+      let r = owners n hs in
+      record {
+        shares = j ∷ r .shares;
+        as-many = ap suc (r .as-many);
+        among = b & r .among;
+        show = λ i xs xs′ q q′ a. f i xs xs′ q q′ (all-head a) & r .show i xs xs′ q q′ (all-tail a);
+      }
