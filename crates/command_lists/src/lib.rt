@@ -1,6 +1,4 @@
-// Commands that list: the places of a product or of the cube, the bytes at all of them or at some, and the steps that the bytes of a tape go into.
-pub mod cube_reading;
-pub mod cube_sheet;
+// Commands that list: the places of a product, the bytes at all of them or at some, and the steps that the bytes of a tape go into.
 pub mod layout;
 pub mod place_list;
 pub mod places;

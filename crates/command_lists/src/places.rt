@@ -1,31 +1,25 @@
-// The commands `places` and `cube-places`: the places of a product or of the cube by number and name.
+// The command `places`: the places of a product by number and name.
 use command_line::arguments;
 use outcomes::Refusal;
 use text::answers;
+use text::decimal::Number;
 
-// The order, where it can be read and is served; 0 where not, and a line says why.
-fn order() -> usize {
+// ORDER, where it is one that is served; if it is none, a line says so.
+pub fn served_order() -> Number {
     let order = arguments::number(2, b"ORDER");
-    if !order.good {
-        return 0;
+    if !order.good || outcomes::asked::served(order.value) {
+        return order;
     }
-    if !outcomes::asked::served(order.value) {
-        answers::print_refused(Refusal::Order);
-        return 0;
+    answers::print_refused(Refusal::Order);
+    Number {
+        good: false,
+        value: order.value,
     }
-    order.value
 }
 
 pub fn run() {
-    let d = order();
-    if 0 < d {
-        listing::places::print(d, &[]);
-    }
-}
-
-pub fn run_cube() {
-    let d = order();
-    if 0 < d {
-        listing::cube_places::print(d, &[]);
+    let order = served_order();
+    if order.good {
+        listing::places::print(order.value, &[]);
     }
 }

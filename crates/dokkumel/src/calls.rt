@@ -2,8 +2,6 @@
 use command_calls::routines;
 use command_line::arguments;
 use command_line::commands::Command;
-use command_lists::cube_reading;
-use command_lists::cube_sheet;
 use command_lists::reading;
 use command_lists::sheet;
 
@@ -11,8 +9,8 @@ fn run_on(c: Command, order: usize, first: &[u8], second: &[u8], tape: &[u32]) {
     match c {
         Command::Read => reading::run(order, first, second, tape),
         Command::Sheet => sheet::run(order, first, second, tape),
-        Command::ReadCube => cube_reading::run(order, first, tape),
-        Command::CubeSheet => cube_sheet::run(order, first, tape),
+        Command::ReadCube => command_cubes::reading::run(order, first, tape),
+        Command::CubeSheet => command_cubes::sheet::run(order, first, tape),
         _ => routines::run(c, order, first, second, tape),
     }
 }
@@ -70,11 +68,8 @@ pub fn run(c: Command) {
         }
         Command::EncryptPrepared => with_order(c, order.value, b"PREPARED"),
         Command::Split => with_order(c, order.value, b"INPUT"),
-        Command::Join
-        | Command::Refresh
-        | Command::Sbox
-        | Command::CubeSheet
-        | Command::ReadCube => with_order(c, order.value, b"SHARES"),
+        Command::Join | Command::Refresh | Command::Sbox | Command::CubeSheet | Command::ReadCube =>
+            with_order(c, order.value, b"SHARES"),
         _ => with_order(c, order.value, b"LEFT"),
     }
 }

@@ -16,7 +16,7 @@ use command_previews::previews;
 fn run(c: Command) {
     match c {
         Command::Places => places::run(),
-        Command::CubePlaces => places::run_cube(),
+        Command::CubePlaces => command_cubes::places::run(),
         Command::Tape => layout::run(),
         Command::Preview => previews::run(),
         Command::Help => help::print(),

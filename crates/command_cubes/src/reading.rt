@@ -1,5 +1,5 @@
 // The command `read-cube`: the bytes at the places of the cube that the arguments behind the tape name.
-use crate::place_list;
+use command_lists::place_list;
 use text::answers;
 
 // The first argument that names a place.

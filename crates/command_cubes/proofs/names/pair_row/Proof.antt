@@ -1,8 +1,8 @@
--- `listing::cube_places::pair_row` meets its contract. Assumes nothing.
+-- `command_cubes::names::pair_row` meets its contract. Assumes nothing.
 use Prim.Native.Nat.{_<_, _-_}
 use borrow.Author.Needs.{needs}
-use Rattle.listing.proofs.cube_places.pair_row.Statement.{statement}
-use Rattle.listing.proofs.cube_places.pair_row.Tie as tie
+use Rattle.command_cubes.proofs.names.pair_row.Statement.{statement}
+use Rattle.command_cubes.proofs.names.pair_row.Tie as tie
 
 abbrev Inv-loop : tie.InvT-loop
 Inv-loop n i first sheet k₀ j₀ k j = i < j

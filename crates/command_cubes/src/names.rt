@@ -1,7 +1,7 @@
 // The places of the cube x·x² by number and name: the squares, the refresh that makes the first factor of them, and that product. Document 02,
-// wish 8, decides their order. As in places.rt, a function begins with number k, and answers with the number behind its last.
+// wish 8, decides their order. As for a product (crate `listing`), a function begins with number k, and answers with the number behind its last.
 ghost use Prim.Native.Nat.{_≤_, _<_};
-use crate::lines;
+use listing::lines;
 
 // `x_0*x_0`
 fn print_square(i: usize) {
@@ -91,5 +91,5 @@ pub fn print(d: usize, sheet: &[u8]) {
     let n = d + 1;
     let mut k = squares(n, 0, sheet);
     k = pairs(n, k, sheet);
-    crate::places::product(d, k, sheet);
+    listing::places::product(d, k, sheet);
 }

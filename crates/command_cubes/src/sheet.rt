@@ -6,7 +6,7 @@ use text::answers;
 fn run_in(order: usize, shares: &[u8], tape: &[u32], sheet: &mut [u8]) {
     match cubes::cube_sheet(order, shares, tape, sheet) {
         Answer::Taken(count) => {
-            listing::cube_places::print(order, sheet);
+            crate::names::print(order, sheet);
             answers::print_taken(count)
         }
         Answer::Refused(r) => answers::print_refused(r),

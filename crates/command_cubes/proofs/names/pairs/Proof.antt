@@ -1,8 +1,8 @@
--- `listing::cube_places::pairs` meets its contract. Assumes nothing.
+-- `command_cubes::names::pairs` meets its contract. Assumes nothing.
 use Prim.Native.Nat.{_≤_, _-_}
 use borrow.Author.Needs.{needs}
-use Rattle.listing.proofs.cube_places.pairs.Statement.{statement}
-use Rattle.listing.proofs.cube_places.pairs.Tie as tie
+use Rattle.command_cubes.proofs.names.pairs.Statement.{statement}
+use Rattle.command_cubes.proofs.names.pairs.Tie as tie
 
 abbrev Inv-loop : tie.InvT-loop
 Inv-loop n first sheet k₀ i₀ k i = i ≤ n

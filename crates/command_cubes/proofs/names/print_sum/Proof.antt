@@ -1,8 +1,8 @@
--- `listing::cube_places::print_sum` meets its contract. Assumes nothing.
+-- `command_cubes::names::print_sum` meets its contract. Assumes nothing.
 use Prim.Native.Nat.{_≤_, _-_}
 use borrow.Author.Needs.{needs}
-use Rattle.listing.proofs.cube_places.print_sum.Statement.{statement}
-use Rattle.listing.proofs.cube_places.print_sum.Tie as tie
+use Rattle.command_cubes.proofs.names.print_sum.Statement.{statement}
+use Rattle.command_cubes.proofs.names.print_sum.Tie as tie
 
 abbrev Inv-loop : tie.InvT-loop
 Inv-loop i m t₀ t4 t = t ≤ m

@@ -1,0 +1,8 @@
+// The command `cube-places`: the places of the cube by number and name.
+
+pub fn run() {
+    let order = command_lists::places::served_order();
+    if order.good {
+        crate::names::print(order.value, &[]);
+    }
+}
