@@ -1,0 +1,9 @@
+pub mod BoxPlaces
+pub mod StringPlaces
+pub mod SchedulePlaces
+pub mod RoundPlaces
+pub mod CallPlaces
+pub mod SessionPlaces
+pub mod Hiding
+pub mod Runs
+pub mod Opening

@@ -1,0 +1,1 @@
+// Hiding of whole calls: places, choices, rules. This crate is mathematics only: definitions in specs/, theorems in proofs/.
