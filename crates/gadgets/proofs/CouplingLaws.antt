@@ -3,8 +3,8 @@ use mathlib.Core.Path.{_≡_, refl, sym, ap, ap₂, subst₂, _∙_}
 use mathlib.Core.List.{List, [], _++_}
 use Prim.Native.Nat.{ℕ, _+_, _^_, _≤_}
 use native.Mathlib.Omega.{arith}
-use lib.ListN.{length, drop, length-append}
-use lib.Seq.{drop-at}
+use lib.ListN.{length, take, drop, length-append}
+use lib.Seq.{drop-at, take-all}
 use Rattle.xor.specs.Lists.{done, Below}
 use Rattle.xor.specs.Sums.{xors}
 use Rattle.xor.proofs.ListsLaws.{all-append}
@@ -67,6 +67,20 @@ coupled-then {X} {Y} width n m R Q c c′ k k′ s s′ h f g g′ e =
     apart c k s g =
         sums-split (2 ^ width) n m (λ ts. g (k (c ts) (drop n ts)))
         ∙ sums-cong (2 ^ width) n _ _ (λ us l b. sums-cong (2 ^ width) m _ _ (λ vs l′ b′. ap g (one-run c k s us vs l)))
+
+-- by the front of a tape that has no more
+pub coupled-front : {X : Type 0} (width n : ℕ) (R : X → X → Type 0) (c c′ : List ℕ → X)
+    → Coupled width n R c c′ → Coupled width n R (λ ts. c (take n ts)) (λ ts. c′ (take n ts))
+coupled-front width n R c c′ h g g′ k =
+    sums-cong (2 ^ width) n _ _ (λ ts l b. ap (λ (us : List ℕ). g (c us)) (whole ts l))
+    ∙ h g g′ (λ ts ts′ t t′ r.
+    ap (λ (us : List ℕ). g (c us)) (sym (whole ts (t .long)))
+    ∙ k ts ts′ t t′ (subst₂ (λ (us us′ : List ℕ). R (c us) (c′ us′)) (sym (whole ts (t .long))) (sym (whole ts′ (t′ .long))) r)
+    ∙ ap (λ (us : List ℕ). g′ (c′ us)) (whole ts′ (t′ .long)))
+    ∙ sums-cong (2 ^ width) n _ _ (λ ts l b. ap (λ (us : List ℕ). g′ (c′ us)) (sym (whole ts l)))
+  where
+    whole : (ts : List ℕ) → length ts ≡ n → take n ts ≡ ts
+    whole ts l = take-all n ts (omega arith)
 
 -- with tape left over
 pub coupled-spare : {X : Type 0} (width n e : ℕ) (R : X → X → Type 0) (c c′ : List ℕ → X)

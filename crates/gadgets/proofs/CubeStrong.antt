@@ -27,7 +27,8 @@ unfolding each-share
 each-map f i [] = refl
 each-map f i (a ∷ x) = ap (_∷_ (f a)) (each-map f (suc i) x)
 
-map-step : {width : ℕ} (d v : ℕ) (f : ℕ → ℕ) → Hidden width d (run d) (run d) 0 (suc d) (λ e ts. map f (e v)) (λ e ts. e)
+-- the values of f at each share of a variable are looked at
+pub map-step : {width : ℕ} (d v : ℕ) (f : ℕ → ℕ) → Hidden width d (run d) (run d) 0 (suc d) (λ e ts. map f (e v)) (λ e ts. e)
 map-step {width} d v f =
     let n : suc d * 1 ≡ suc d = omega arith in
     subst (λ (sheet : (ℕ → List ℕ) → List ℕ → List ℕ). Hidden width d (run d) (run d) 0 (suc d) sheet (λ e ts. e))

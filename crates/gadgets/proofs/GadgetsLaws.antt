@@ -7,7 +7,7 @@ use Prim.Native.Nat.{ℕ, suc, _+_, _^_, _≤_, _<_}
 use native.Mathlib.Omega.{arith}
 use lib.Bits.{bitXor, xor-lt}
 use lib.ListN.{length, take, drop}
-use lib.Seq.{take-append-le, take-all}
+use lib.Seq.{take-append-le}
 use Rattle.xor.specs.Lists.{at, All, done, Below}
 use Rattle.xor.specs.Sums.{xors}
 use Rattle.xor.proofs.ListsLaws.{all-map, map-cong}
@@ -20,7 +20,7 @@ use Rattle.isw.proofs.Missed.{miss}
 use Rattle.gadgets.specs.Coupling.{Coupled}
 use Rattle.gadgets.specs.Steps.{Agree}
 use Rattle.gadgets.specs.Gadgets.{bytes, Common, Gadget, tapes-giving, Strong}
-use Rattle.gadgets.proofs.CouplingLaws.{coupled-by, coupled-map, coupled-then}
+use Rattle.gadgets.proofs.CouplingLaws.{coupled-by, coupled-map, coupled-then, coupled-front}
 
 -- a strong gadget by another word for its count
 pub strong-recount : {width d n k k′ : ℕ} {sheet out : (x tape : List ℕ) → List ℕ} → k ≡ k′
@@ -38,7 +38,7 @@ how-many-cong m k test test′ h =
     ∙ sym (how-many-sums m k test′)
 
 -- coupled runs are counted alike by every test that answers alike on paired outcomes
-counted : {X : Type 0} (width n : ℕ) (R : X → X → Type 0) (c c′ : List ℕ → X) (test : X → Bool) → ((x x′ : X) → R x x′ → test x ≡ test x′)
+pub counted : {X : Type 0} (width n : ℕ) (R : X → X → Type 0) (c c′ : List ℕ → X) (test : X → Bool) → ((x x′ : X) → R x x′ → test x ≡ test x′)
     → Coupled width n R c c′ → how-many (2 ^ width) n (λ ts. test (c ts)) ≡ how-many (2 ^ width) n (λ ts. test (c′ ts))
 counted width n R c c′ test alike k =
     how-many-sums (2 ^ width) n _
@@ -90,40 +90,42 @@ module _ (width d x y : ℕ) (hx : x < 2 ^ width) (hy : y < 2 ^ width) (q : ℕ)
   moved-long : (ts : List ℕ) → length ts ≡ d → length (xors ts moved) ≡ d
   moved-long ts h = omega (arith, length-xors ts moved, length-taken-up q (bitXor x y))
 
-  factor-coupled : Coupled width d (Bytes-but d q) (λ ts. factor x (take d ts)) (λ ts. factor y (take d ts))
+  factor-coupled : Coupled width d (Bytes-but d q) (factor x) (factor y)
   factor-coupled =
-      coupled-by width d (Bytes-but d q) _ _ moved (omega (arith, length-taken-up q (bitXor x y)))
+      coupled-by width d (Bytes-but d q) (factor x) (factor y) moved (omega (arith, length-taken-up q (bitXor x y)))
       (taken-up-below width q (xor-lt width x y hx hy))
-      (λ ts h.
-      let t : take d ts ≡ ts = take-all d ts (omega arith) in
-      let t′ : take d (xors ts moved) ≡ xors ts moved = take-all d (xors ts moved) (omega (arith, moved-long ts h)) in
-      record {
-        as-many = length-factor d x (take d ts) (ap length t ∙ h);
-        as-many′ = length-factor d y (take d (xors ts moved)) (ap length t′ ∙ moved-long ts h);
-        others = λ i n.
-            ap (λ (ms : List ℕ). at (factor x ms) i) t
-            ∙ other-shares x y q ts i n
-            ∙ ap (λ (ms : List ℕ). at (factor y ms) i) (sym t′);
+      (λ ts h. record {
+        as-many = length-factor d x ts h;
+        as-many′ = length-factor d y (xors ts moved) (moved-long ts h);
+        others = λ i n. other-shares x y q ts i n;
       })
 
--- d masks and a tape: no d places of a strong gadget of one input tell two bytes apart
+-- two sheets show the same at the listed places
+abbrev pub Shown : (ps : List ℕ) (x x′ : List ℕ) → Type 0
+Shown ps x x′ = All (λ p. at x p ≡ at x′ p) ps
+
+-- d masks and a tape: the runs of a strong gadget of one input on two bytes are coupled at any d places
+pub strong-coupled : {width d need count : ℕ} {sheet out : (x tape : List ℕ) → List ℕ} → Strong width d need count sheet out
+    → (ps : List ℕ) (x y : ℕ) → length ps ≤ d → Below count ps → x < 2 ^ width → y < 2 ^ width
+    → Coupled width (d + need) (Shown ps) (λ cs. sheet (factor x (take d cs)) (drop d cs)) (λ cs. sheet (factor y (take d cs)) (drop d cs))
+strong-coupled {width} {d} {need} {count} {sheet} {out} B ps x y few below hx hy =
+    let a = B .strong ps [] below done (omega arith) in
+    let f = a .few in
+    let (q, q-le, q-free) = miss d (a .of) (omega arith) in
+    coupled-then width d need (Bytes-but d q) (Shown ps) (λ ts. factor x (take d ts)) (λ ts. factor y (take d ts)) sheet sheet
+    (λ us vs h. ap (factor x) (take-append-le d us vs h)) (λ us vs h. ap (factor y) (take-append-le d us vs h))
+    (coupled-front width d (Bytes-but d q) (factor x) (factor y) (factor-coupled width d x y hx hy q q-le))
+    (λ us us′ t t′ r.
+    let u = factor x (take d us) in
+    let u′ = factor y (take d us′) in
+    coupled-map width need (Agree (bytes d) count ps (λ v. [])) (Shown ps)
+    (λ ts. (sheet u ts, out u ts)) (λ ts. (sheet u′ ts, out u′ ts)) (λ z. z .0) (λ z. z .0) (λ z z′ k. k .shown)
+    (a .coupled u u′ (r .as-many) (r .as-many′) (all-map (λ i n. r .others i n) q-free)))
+
+-- so no d places of it tell two bytes apart
 pub strong-hides : {width d need count : ℕ} {sheet out : (x tape : List ℕ) → List ℕ} → Strong width d need count sheet out
     → (ps rs : List ℕ) (x y : ℕ) → length ps ≤ d → Below count ps → x < 2 ^ width → y < 2 ^ width
     → how-many (2 ^ width) (d + need) (λ cs. same (listed (sheet (factor x (take d cs)) (drop d cs)) ps) rs)
     ≡ how-many (2 ^ width) (d + need) (λ cs. same (listed (sheet (factor y (take d cs)) (drop d cs)) ps) rs)
-strong-hides {width} {d} {need} {count} {sheet} {out} B ps rs x y few below hx hy =
-    let a = B .strong ps [] below done (omega arith) in
-    let f = a .few in
-    let (q, q-le, q-free) = miss d (a .of) (omega arith) in
-    counted-alike width (d + need) ps rs
-    (λ cs. sheet (factor x (take d cs)) (drop d cs)) (λ cs. sheet (factor y (take d cs)) (drop d cs))
-    (coupled-then width d need (Bytes-but d q) (λ u u′. All (λ p. at u p ≡ at u′ p) ps)
-    (λ ts. factor x (take d ts)) (λ ts. factor y (take d ts)) sheet sheet
-    (λ us vs h. ap (factor x) (take-append-le d us vs h)) (λ us vs h. ap (factor y) (take-append-le d us vs h))
-    (factor-coupled width d x y hx hy q q-le)
-    (λ us us′ t t′ r.
-    let u = factor x (take d us) in
-    let u′ = factor y (take d us′) in
-    coupled-map width need (Agree (bytes d) count ps (λ v. [])) (λ u u′. All (λ p. at u p ≡ at u′ p) ps)
-    (λ ts. (sheet u ts, out u ts)) (λ ts. (sheet u′ ts, out u′ ts)) (λ z. z .0) (λ z. z .0) (λ z z′ k. k .shown)
-    (a .coupled u u′ (r .as-many) (r .as-many′) (all-map (λ i n. r .others i n) q-free))))
+strong-hides {width} {d} {need} B ps rs x y few below hx hy =
+    counted-alike width (d + need) ps rs _ _ (strong-coupled B ps x y few below hx hy)

@@ -6,6 +6,7 @@ pub mod RouteLaws
 pub mod ProductStrong
 pub mod EachOnceLaws
 pub mod RefreshStrong
+pub mod RefreshOpens
 pub mod ChainLaws
 pub mod CubeStrong
 pub mod CubeLaws

@@ -5,7 +5,7 @@ use mathlib.Core.Bool.{Bool, false, cond, _||_}
 use mathlib.Core.List.{List, [], _∷_, _++_}
 use Prim.Native.Nat.{ℕ, zero, suc, _+_, _-_, _*_, _≤_, _<_}
 use native.Mathlib.Decide.{decLt}
-use native.Mathlib.Nat.{suc-mul, zero-mul}
+use native.Mathlib.Nat.{suc-mul, zero-mul, add-zero}
 use native.Mathlib.Omega.{arith}
 use lib.Dec.{T, ltb, eqb, eqb→eq, eqb-refl}
 use lib.ListN.{length, getD, length-append, List·getD-append}
@@ -84,69 +84,80 @@ cut-same k xs xs′ ys ys′ e e′ (p ∷ ps) h g =
         ap (λ (n : ℕ). getD (xs ++ ys) n 0) u ∙ getD-append-add xs ys (p - k) 0 ∙ q ∙ sym (getD-append-add xs′ ys′ (p - k) 0)
         ∙ ap (λ (n : ℕ). getD (xs′ ++ ys′) n 0) u′
 
--- ---- a sheet of what is computed share by share: each of its places sees one share
+-- ---- a sheet of what is computed share by share, m entries of each: each of its places sees one share
 
-module _ {A : Type 0} (e : A) (m : ℕ) (g : ℕ → A → List ℕ) (long : (i : ℕ) (x : A) → length (g i x) ≡ m) where
-  pub length-each : (i : ℕ) (xs : List A) → length (each-share g i xs) ≡ length xs * m
+-- each share has m entries
+abbrev pub Each-long : {A : Type 0} (m : ℕ) (g : ℕ → A → List ℕ) → Type 0
+Each-long {A} m g = (i : ℕ) (x : A) → length (g i x) ≡ m
+
+module _ {A : Type 0} (e : A) (m : ℕ) where
+  pub length-each : (g : ℕ → A → List ℕ) → Each-long m g → (i : ℕ) (xs : List A) → length (each-share g i xs) ≡ length xs * m
   unfolding each-share
-  length-each i [] = sym (zero-mul m)
-  length-each i (x ∷ xs) = length-append (g i x) (each-share g (suc i) xs) ∙ omega (arith, long i x, length-each (suc i) xs, suc-mul (length xs) m)
+  length-each g long i [] = sym (zero-mul m)
+  length-each g long i (x ∷ xs) =
+      length-append (g i x) (each-share g (suc i) xs) ∙ omega (arith, long i x, length-each g long (suc i) xs, suc-mul (length xs) m)
 
-  -- place p of a sheet of n shares sees share j: it shows the same where that share is the same
-  Sees : (p n j : ℕ) → Type 0
-  Sees p n j =
-      (i : ℕ) (xs xs′ : List A) → length xs ≡ n → length xs′ ≡ n → getD xs j e ≡ getD xs′ j e → at (each-share g i xs) p ≡ at (each-share g i xs′) p
+  -- where place p of a sheet of n shares stands, whatever is computed: at entry `entry` of share `share`
+  pub record Located (n p : ℕ) : Type 0 where
+    pub share : ℕ
+    pub entry : ℕ
+    pub share-lt : share < n
+    pub entry-lt : entry < m
+    pub reads : (g : ℕ → A → List ℕ) → Each-long m g → (i : ℕ) (xs : List A) → length xs ≡ n
+        → at (each-share g i xs) p ≡ at (g (i + share) (getD xs share e)) entry
 
-  near : (n p : ℕ) → p < m → Sees p (suc n) 0
-  unfolding Sees each-share at
-  near n p l i [] xs′ q q′ s = absurd (omega arith)
-  near n p l i (x ∷ xs) [] q q′ s = absurd (omega arith)
-  near n p l i (x ∷ xs) (x′ ∷ xs′) q q′ s =
-      List·getD-append (g i x) (each-share g (suc i) xs) 0 p (omega (arith, long i x))
-      ∙ ap (λ (y : A). getD (g i y) p 0) s
-      ∙ sym (List·getD-append (g i x′) (each-share g (suc i) xs′) 0 p (omega (arith, long i x′)))
+  near : (n p : ℕ) → p < m → (g : ℕ → A → List ℕ) → Each-long m g → (i : ℕ) (xs : List A) → length xs ≡ suc n
+      → at (each-share g i xs) p ≡ at (g (i + 0) (getD xs 0 e)) p
+  unfolding each-share at
+  near n p l g long i [] q = absurd (omega arith)
+  near n p l g long i (x ∷ xs) q =
+      List·getD-append (g i x) (each-share g (suc i) xs) 0 p (omega (arith, long i x)) ∙ ap (λ (k : ℕ). getD (g k x) p 0) (sym (add-zero i))
 
-  past : (p : ℕ) → m ≤ p → (i : ℕ) (x : A) (xs : List A) → at (g i x ++ each-share g (suc i) xs) p ≡ at (each-share g (suc i) xs) (p - m)
+  past : (p : ℕ) → m ≤ p → (g : ℕ → A → List ℕ) → Each-long m g → (i : ℕ) (x : A) (xs : List A)
+      → at (g i x ++ each-share g (suc i) xs) p ≡ at (each-share g (suc i) xs) (p - m)
   unfolding at
-  past p l i x xs =
+  past p l g long i x xs =
       let u : p ≡ length (g i x) + (p - m) = omega (arith, long i x) in
       ap (λ (n : ℕ). getD (g i x ++ each-share g (suc i) xs) n 0) u ∙ getD-append-add (g i x) (each-share g (suc i) xs) (p - m) 0
 
-  far : (n p j : ℕ) → m ≤ p → Sees (p - m) n j → Sees p (suc n) (suc j)
-  unfolding Sees each-share
-  far n p j l f i [] xs′ q q′ s = absurd (omega arith)
-  far n p j l f i (x ∷ xs) [] q q′ s = absurd (omega arith)
-  far n p j l f i (x ∷ xs) (x′ ∷ xs′) q q′ s = past p l i x xs ∙ f (suc i) xs xs′ (omega arith) (omega arith) s ∙ sym (past p l i x′ xs′)
+  far : (n p : ℕ) → m ≤ p → (r : Located n (p - m)) → (g : ℕ → A → List ℕ) → Each-long m g → (i : ℕ) (xs : List A) → length xs ≡ suc n
+      → at (each-share g i xs) p ≡ at (g (i + suc (r .share)) (getD xs (suc (r .share)) e)) (r .entry)
+  unfolding each-share
+  far n p l r g long i [] q = absurd (omega arith)
+  far n p l r g long i (x ∷ xs) q =
+      let v : suc i + r .share ≡ i + suc (r .share) = omega arith in
+      past p l g long i x xs ∙ r .reads g long (suc i) xs (omega arith) ∙ ap (λ (k : ℕ). at (g k (getD xs (r .share) e)) (r .entry)) v
 
-  -- the share that a place sees
-  owner : (n p : ℕ) → p < n * m → (j : ℕ) × (j < n) × Sees p n j
-  owner zero p h = absurd (omega (arith, zero-mul m))
-  owner (suc n) p h = go (decLt p m) (λ l. owner n (p - m) (omega (arith, suc-mul n m)))
+  pub located : (n p : ℕ) → p < n * m → Located n p
+  located zero p h = absurd (omega (arith, zero-mul m))
+  located (suc n) p h = go (decLt p m) (λ l. located n (p - m) (omega (arith, suc-mul n m)))
     where
-      go : Dec (p < m) → (m ≤ p → (j : ℕ) × (j < n) × Sees (p - m) n j) → (j : ℕ) × (j < suc n) × Sees p (suc n) j
-      go (yes l) r = (0, omega arith, near n p l)
-      go (no l) r =
+      go : Dec (p < m) → (m ≤ p → Located n (p - m)) → Located (suc n) p
+      go (yes l) f = record { share = 0; entry = p; share-lt = omega arith; entry-lt = l; reads = near n p l }
+      go (no l) f =
           let k : m ≤ p = omega arith in
-          let (j, b, f) = r k in
-          (suc j, omega arith, far n p j k f)
+          let r = f k in
+          record { share = suc (r .share); entry = r .entry; share-lt = omega (arith, r .share-lt); entry-lt = r .entry-lt; reads = far n p k r }
 
-  -- the shares that places see
-  pub record Owners (n : ℕ) (ps : List ℕ) : Type 0 where
-    pub shares : List ℕ
-    pub as-many : length shares ≡ length ps
-    pub among : Below n shares
-    pub show : (i : ℕ) (xs xs′ : List A) → length xs ≡ n → length xs′ ≡ n → All (λ j. getD xs j e ≡ getD xs′ j e) shares
-        → All (λ p. at (each-share g i xs) p ≡ at (each-share g i xs′) p) ps
+  module _ (g : ℕ → A → List ℕ) (long : Each-long m g) where
+    -- the shares that places see
+    pub record Owners (n : ℕ) (ps : List ℕ) : Type 0 where
+      pub shares : List ℕ
+      pub as-many : length shares ≡ length ps
+      pub among : Below n shares
+      pub show : (i : ℕ) (xs xs′ : List A) → length xs ≡ n → length xs′ ≡ n → All (λ j. getD xs j e ≡ getD xs′ j e) shares
+          → All (λ p. at (each-share g i xs) p ≡ at (each-share g i xs′) p) ps
 
-  pub owners : (n : ℕ) {ps : List ℕ} → Below (n * m) ps → Owners n ps
-  unfolding Sees
-  owners n done = record { shares = []; as-many = refl; among = done; show = λ i xs xs′ q q′ h. done }
-  owners n (_&_ {x = p} h hs) =
-      let (j, b, f) = owner n p h in
-      let r = owners n hs in
-      record {
-        shares = j ∷ r .shares;
-        as-many = ap suc (r .as-many);
-        among = b & r .among;
-        show = λ i xs xs′ q q′ a. f i xs xs′ q q′ (all-head a) & r .show i xs xs′ q q′ (all-tail a);
-      }
+    pub owners : (n : ℕ) {ps : List ℕ} → Below (n * m) ps → Owners n ps
+    owners n done = record { shares = []; as-many = refl; among = done; show = λ i xs xs′ q q′ h. done }
+    owners n (_&_ {x = p} h hs) =
+        let o = located n p h in
+        let r = owners n hs in
+        record {
+          shares = o .share ∷ r .shares;
+          as-many = ap suc (r .as-many);
+          among = o .share-lt & r .among;
+          show = λ i xs xs′ q q′ a.
+              (o .reads g long i xs q ∙ ap (λ (x : A). at (g (i + o .share) x) (o .entry)) (all-head a) ∙ sym (o .reads g long i xs′ q′))
+              & r .show i xs xs′ q q′ (all-tail a);
+        }

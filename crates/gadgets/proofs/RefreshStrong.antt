@@ -61,14 +61,14 @@ past-three a b c a′ b′ c′ l l′ k e = e
 
 -- ---- the share that a place sees
 
-unfoldable seen : List (ℕ × ℕ) → ℕ → ℕ
+unfoldable pub seen : List (ℕ × ℕ) → ℕ → ℕ
 seen [] k = 0
 seen (p ∷ ps) zero = p .0
 seen (p ∷ ps) (suc zero) = p .0
 seen (p ∷ ps) (suc (suc zero)) = p .1
 seen (p ∷ ps) (suc (suc (suc k))) = seen ps k
 
-seen-lt : (n : ℕ) {ps : List (ℕ × ℕ)} → All (Pair (suc n)) ps → (k : ℕ) → seen ps k < suc n
+pub seen-lt : (n : ℕ) {ps : List (ℕ × ℕ)} → All (Pair (suc n)) ps → (k : ℕ) → seen ps k < suc n
 unfolding seen
 seen-lt n done k = omega arith
 seen-lt n (h & hs) zero = omega arith
@@ -313,7 +313,8 @@ module _ (d : ℕ) (list : List (ℕ × ℕ)) (once : Each-once d list) (among :
   unfolding moved-by
   moved-fits = rw length-map (omega arith)
 
-  runs-coupled : (width : ℕ) → ((i : ℕ) → at xs i < 2 ^ width) → ((i : ℕ) → at xs′ i < 2 ^ width)
+  -- the places ps and the shares os of the output stay, where no place sees share q and os has not q
+  pub runs-coupled : (width : ℕ) → ((i : ℕ) → at xs i < 2 ^ width) → ((i : ℕ) → at xs′ i < 2 ^ width)
       → Coupled width (length list) (Agree (bytes d) (3 * length list) ps (λ v. os))
       (λ ts. (pairs-sheet list xs ts, pairs-refreshed list xs ts)) (λ ts. (pairs-sheet list xs′ ts, pairs-refreshed list xs′ ts))
   runs-coupled width b b′ =

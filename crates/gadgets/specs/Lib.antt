@@ -4,3 +4,4 @@ pub mod Gadgets
 pub mod EachOnce
 pub mod Cube
 pub mod CubeHiding
+pub mod Opening

@@ -1,1 +1,4 @@
-
+pub mod FactorsStrong
+pub mod BoxStrong
+pub mod StringSteps
+pub mod CipherSteps
