@@ -1,7 +1,7 @@
 -- Couplings: by moving every tape by the same numbers; of functions of the outcomes; and one computation after another. Assumes nothing.
-use mathlib.Core.Path.{_≡_, refl, sym, ap, ap₂, subst₂, _∙_}
+use mathlib.Core.Path.{_≡_, refl, sym, ap, ap₂, subst, subst₂, _∙_}
 use mathlib.Core.List.{List, [], _++_}
-use Prim.Native.Nat.{ℕ, _+_, _^_, _≤_}
+use Prim.Native.Nat.{ℕ, _+_, _-_, _^_, _≤_}
 use native.Mathlib.Omega.{arith}
 use lib.ListN.{length, take, drop, length-append}
 use lib.Seq.{drop-at, take-all}
@@ -91,3 +91,11 @@ coupled-spare width n e R c c′ s s′ h =
   where
     coupled-constant : {X : Type 0} (e : ℕ) (R : X → X → Type 0) (x x′ : X) → R x x′ → Coupled width e R (λ ts. x) (λ ts. x′)
     coupled-constant e R x x′ r = coupled-by width e R (λ ts. x) (λ ts. x′) [] (omega arith) done (λ ts l. r)
+
+-- on any tape that is long enough
+pub coupled-within : {X : Type 0} (width n m : ℕ) (R : X → X → Type 0) (c c′ : List ℕ → X)
+    → ((us vs : List ℕ) → n ≤ length us → c (us ++ vs) ≡ c us) → ((us vs : List ℕ) → n ≤ length us → c′ (us ++ vs) ≡ c′ us)
+    → n ≤ m → Coupled width n R c c′ → Coupled width m R c c′
+coupled-within width n m R c c′ s s′ le h =
+    let e : n + (m - n) ≡ m = omega arith in
+    subst (λ (k : ℕ). Coupled width k R c c′) e (coupled-spare width n (m - n) R c c′ s s′ h)

@@ -8,7 +8,7 @@ use Rattle.xor.specs.Lists.{All, Below}
 use Rattle.gf256.specs.declared.Direction.{Direction}
 use Rattle.isw.specs.Hiding.{how-many, factor, same}
 use Rattle.tape_words.specs.Words.{bytes-of, words-for}
-use Rattle.shares.specs.Strings.{split, split-need}
+use Rattle.shares.specs.Strings.{Shares, split, split-need}
 use Rattle.sbox.specs.Box.{box-need}
 use Rattle.cipher.specs.Cipher.{cipher-need}
 use Rattle.probing.specs.BoxPlaces.{box-sheet, box-count}
@@ -20,10 +20,6 @@ use Rattle.probing.specs.Hiding.{Run, View, viewed}
 pub record Plain (l : ℕ) (s : List ℕ) : Type 0 where
   pub long : length s ≡ l
   pub small : Below 256 s
-
--- two plain strings, as a secret
-abbrev pub Both-plain : (l m : ℕ) → List ℕ × List ℕ → Type 0
-Both-plain l m s = Plain l (s .0) × Plain m (s .1)
 
 -- ONE S-BOX of order d, or inverse S-box, of a byte with d masks of its own
 abbrev pub box-run : Direction → (d : ℕ) → Run
@@ -41,29 +37,25 @@ box-run w d =
 unfoldable pub masks-of-two : (d l m : ℕ) → ℕ
 masks-of-two d l m = split-need d l + split-need d m
 
--- A WHOLE CALL of order d, its key expansion included; the secret is key and block. Keys of 16, 24 and 32 bytes are nk = 4, 6 and 8
-abbrev pub call-run : Direction → (nk d : ℕ) → Run
-call-run w nk d =
+-- a run of order d on two strings of l and of m bytes, each in shares by masks of its own
+abbrev pub two-run : (l m d need count : ℕ) (sheet : (first second : Shares) → (tape : List ℕ) → List ℕ) → Run
+two-run l m d need count sheet =
     record {
       Secret = List ℕ × List ℕ;
-      good = Both-plain (4 * nk) 16;
-      masks = masks-of-two d (4 * nk) 16;
-      need = cipher-need nk d;
-      count = call-count w nk d;
-      sheet = λ s ms ts. call-sheet w nk d (split d (s .0) ms) (split d (s .1) (drop (split-need d (4 * nk)) ms)) ts;
+      good = λ s. Plain l (s .0) × Plain m (s .1);
+      masks = masks-of-two d l m;
+      need = need;
+      count = count;
+      sheet = λ s ms ts. sheet (split d (s .0) ms) (split d (s .1) (drop (split-need d l) ms)) ts;
     }
+
+-- A WHOLE CALL of order d, its key expansion included; the secret is key and block. Keys of 16, 24 and 32 bytes are nk = 4, 6 and 8
+abbrev pub call-run : Direction → (nk d : ℕ) → Run
+call-run w nk d = two-run (4 * nk) 16 d (cipher-need nk d) (call-count w nk d) (call-sheet w nk d)
 
 -- A SESSION of order d: one key prepared, and n blocks encrypted from it; the secret is the key and all blocks, one behind the other
 abbrev pub session-run : (n nk d : ℕ) → Run
-session-run n nk d =
-    record {
-      Secret = List ℕ × List ℕ;
-      good = Both-plain (4 * nk) (16 * n);
-      masks = masks-of-two d (4 * nk) (16 * n);
-      need = session-need n nk d;
-      count = session-count n nk d;
-      sheet = λ s ms ts. session-sheet n nk d (split d (s .0) ms) (split d (s .1) (drop (split-need d (4 * nk)) ms)) ts;
-    }
+session-run n nk d = two-run (4 * nk) (16 * n) d (session-need n nk d) (session-count n nk d) (session-sheet n nk d)
 
 -- ---- A CALL WHOSE KEY AND BLOCK ARE SPLIT BY THE LIBRARY, each of the three calls on words of its own: nothing is free but the words. What a call
 -- leaves of its last word, and whole words that it does not take, are read by nobody

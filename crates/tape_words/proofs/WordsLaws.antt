@@ -5,7 +5,7 @@ use Prim.Native.Nat.{ℕ, zero, suc, _+_, _*_, _-_, _/_, _%_, _≤_, _<_}
 use native.Mathlib.Nat.{add-zero}
 use native.Mathlib.Omega.{arith}
 use lib.ListN.{length, take, drop, getD, set, List·getD-append}
-use lib.Seq.{drop-nil}
+use lib.Seq.{take-nil, drop-nil}
 use Rattle.xor.specs.Lists.{at}
 use Rattle.xor.specs.Writes.{front}
 use Rattle.xor.proofs.ListsLaws.{tab-take}
@@ -34,6 +34,16 @@ bytes-drop (suc k) [] = sym (drop-nil (4 * suc k))
 bytes-drop (suc k) (v ∷ ws) =
     let e : 4 * suc k ≡ suc (suc (suc (suc (4 * k)))) = omega arith in
     bytes-drop k ws ∙ sym (ap (λ (n : ℕ). drop n (bytes-of (v ∷ ws))) e)
+
+-- the first k words are the first 4k bytes
+pub bytes-take : (k : ℕ) (ws : List ℕ) → bytes-of (take k ws) ≡ take (4 * k) (bytes-of ws)
+unfolding bytes-of word-bytes
+bytes-take zero ws = refl
+bytes-take (suc k) [] = sym (take-nil (4 * suc k))
+bytes-take (suc k) (v ∷ ws) =
+    let e : 4 * suc k ≡ suc (suc (suc (suc (4 * k)))) = omega arith in
+    ap (λ (l : List ℕ). v % 256 ∷ v / 256 % 256 ∷ v / 256 / 256 % 256 ∷ v / 256 / 256 / 256 % 256 ∷ l) (bytes-take k ws)
+    ∙ sym (ap (λ (n : ℕ). take n (bytes-of (v ∷ ws))) e)
 
 -- the part of the tape that a callee gets from word k on, as bytes
 pub bytes-rest : (k : ℕ) (ws : List ℕ) → bytes-of (take (length ws - k) (drop k ws)) ≡ drop (4 * k) (bytes-of ws)
