@@ -8,6 +8,7 @@ pub mod CipherLaws
 pub mod NeedLaws
 pub mod RoundsLaws
 pub mod Accuracy
+pub mod BytesLaws
 pub mod InverseCipherLaws
 pub mod SurplusLaws
 pub mod SmallValues

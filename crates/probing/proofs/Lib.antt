@@ -5,3 +5,5 @@ pub mod CipherSteps
 pub mod SplitLaws
 pub mod HidingLaws
 pub mod RunsHide
+pub mod SmallShares
+pub mod CallOpens

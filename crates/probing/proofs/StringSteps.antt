@@ -216,7 +216,7 @@ module _ (d : ℕ) where
       ∙ ap₂ (λ (s : List ℕ) (b : ℕ). set s k b) e f
       ∙ sym (share-put ss′ k vs′ i (omega arith) (omega arith))
 
-  column-same : (k i : ℕ) (ss ss′ : Shares) → length ss ≡ suc d → length ss′ ≡ suc d → i < suc d → getD ss i [] ≡ getD ss′ i []
+  pub column-same : (k i : ℕ) (ss ss′ : Shares) → length ss ≡ suc d → length ss′ ≡ suc d → i < suc d → getD ss i [] ≡ getD ss′ i []
       → at (column k ss) i ≡ at (column k ss′) i
   column-same k i ss ss′ l l′ u e =
       share-column k ss i (omega arith) ∙ ap (λ (s : List ℕ). at s k) e ∙ sym (share-column k ss′ i (omega arith))
