@@ -139,6 +139,22 @@ module _ {A : Type 0} (e : A) (m : ℕ) where
           let r = f k in
           record { share = suc (r .share); entry = r .entry; share-lt = omega (arith, r .share-lt); entry-lt = r .entry-lt; reads = far n p k r }
 
+  -- entry r of share i stands at place i · m + r
+  pub at-share : (g : ℕ → A → List ℕ) → Each-long m g → (i r k : ℕ) (xs : List A) → r < m → i < length xs
+      → at (each-share g k xs) (i * m + r) ≡ at (g (k + i) (getD xs i e)) r
+  unfolding each-share
+  at-share g long i r k [] l h = absurd (omega arith)
+  at-share g long zero r k (x ∷ xs) l h =
+      let z : 0 * m + r ≡ r = omega (arith, zero-mul m) in
+      ap (at (g k x ++ each-share g (suc k) xs)) z ∙ near (length xs) r l g long k (x ∷ xs) refl
+  at-share g long (suc i) r k (x ∷ xs) l h =
+      let z : suc i * m + r - m ≡ i * m + r = omega (arith, suc-mul i m) in
+      let v : suc k + i ≡ k + suc i = omega arith in
+      past (suc i * m + r) (omega (arith, suc-mul i m)) g long k x xs
+      ∙ ap (at (each-share g (suc k) xs)) z
+      ∙ at-share g long i r (suc k) xs l (omega arith)
+      ∙ ap (λ (j : ℕ). at (g j (getD xs i e)) r) v
+
   module _ (g : ℕ → A → List ℕ) (long : Each-long m g) where
     -- the shares that places see
     pub record Owners (n : ℕ) (ps : List ℕ) : Type 0 where

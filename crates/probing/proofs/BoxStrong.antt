@@ -91,7 +91,7 @@ module _ (d : ℕ) where
   unfolding power-need
   need-is = omega arith
 
-  power-strong : Strong 8 d (box-need d) (power-count d) (power-sheet d) (power-254 d)
+  pub power-strong : Strong 8 d (box-need d) (power-count d) (power-sheet d) (power-254 d)
   unfolding power-count power-sheet power-254 write start
   power-strong = lone (recount need-is refl (then first-step (then second-step last-step))) 6 (omega arith)
 

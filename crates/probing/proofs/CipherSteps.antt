@@ -25,7 +25,7 @@ use Rattle.probing.specs.RoundPlaces.{round-sheet, round-count, last-rou
 use Rattle.probing.specs.RoundPlaces.{inv-round-sheet, inv-round-count, inv-last-round-sheet, inv-rounds-sheet, inv-rounds-count}
 use Rattle.probing.specs.CallPlaces.{encrypted-with-sheet, encrypted-with-count, encryption-sheet, encryption-count}
 use Rattle.probing.specs.CallPlaces.{decrypted-with-sheet, decrypted-with-count, decryption-sheet, decryption-count, call-sheet, call-count, made}
-use Rattle.probing.specs.SessionPlaces.{block-of, prepared-length, preparation-sheet, preparation-count, block-sheet, block-count}
+use Rattle.probing.specs.SessionPlaces.{block-of, keys-length, preparation-sheet, preparation-count, block-sheet, block-count}
 use Rattle.probing.specs.SessionPlaces.{blocks-sheet, blocks-need, blocks-count, session-sheet, session-need, session-count}
 use Rattle.probing.proofs.StringSteps.{Strings, Two, Reads, reads-self, reads-first, reads-second, reads-map, reads-adds, reads-behind}
 use Rattle.probing.proofs.StringSteps.{reads-into, to-one, to-two, show-two, string-to, string-one, string-two, subs-step}
@@ -188,7 +188,7 @@ module _ (d : ℕ) where
   preparation-step nk =
       show-then (string-two d (4 * nk) (reads-first d) (reads-second d) (reads-second d))
       (then-show (beside (Strings d) (schedule-step nk))
-      (string-two d (prepared-length nk) (reads-first d) (reads-second d) (reads-second d)))
+      (string-two d (keys-length nk) (reads-first d) (reads-second d) (reads-second d)))
 
   pub session-step : (n nk : ℕ) → Hidden 8 d (Two d) (Two d) (session-need n nk d) (session-count n nk d)
       (λ s ts. session-sheet n nk d (s .1) (s .0) ts) (λ s ts. (s .0, schedule nk d (s .1) ts))

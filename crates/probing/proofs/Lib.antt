@@ -7,3 +7,5 @@ pub mod HidingLaws
 pub mod RunsHide
 pub mod SmallShares
 pub mod CallOpens
+pub mod ShownLaws
+pub mod PlaceCounts

@@ -4,6 +4,7 @@ pub mod SchedulePlaces
 pub mod RoundPlaces
 pub mod CallPlaces
 pub mod SessionPlaces
+pub mod Shown
 pub mod Hiding
 pub mod Runs
 pub mod Opening

@@ -17,17 +17,17 @@ block-of xs j = map (λ s. take 16 (drop (16 * j) s)) xs
 -- ---- the preparation: the shares of the key, the key expansion, and the round keys as they are put out, each share as a whole and its bytes
 
 -- how many bytes the round keys are
-abbrev pub prepared-length : (nk : ℕ) → ℕ
-prepared-length nk = 16 * suc (rounds nk)
+abbrev pub keys-length : (nk : ℕ) → ℕ
+keys-length nk = 16 * suc (rounds nk)
 
 -- its places
 unfoldable pub preparation-sheet : (nk d : ℕ) → (key : Shares) → (tape : List ℕ) → List ℕ
 preparation-sheet nk d k ts =
-    string-sheet (4 * nk) k ++ (schedule-sheet nk d k ts ++ string-sheet (prepared-length nk) (schedule nk d k ts))
+    string-sheet (4 * nk) k ++ (schedule-sheet nk d k ts ++ string-sheet (keys-length nk) (schedule nk d k ts))
 
 -- how many they are
 unfoldable pub preparation-count : (nk d : ℕ) → ℕ
-preparation-count nk d = string-count (4 * nk) d + (schedule-count nk d + string-count (prepared-length nk) d)
+preparation-count nk d = string-count (4 * nk) d + (schedule-count nk d + string-count (keys-length nk) d)
 
 -- ---- the blocks
 
