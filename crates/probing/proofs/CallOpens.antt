@@ -16,7 +16,7 @@ use Rattle.gf256.specs.declared.Direction.the-variants.{Forward, Inverse}
 use Rattle.isw.specs.Hiding.{same}
 use Rattle.isw.proofs.Missed.{miss}
 use Rattle.shares.specs.Strings.{Shares, Shared, joined-string, split, split-need}
-use Rattle.shares.proofs.StringsLaws.{shared-split, split-joins}
+use Rattle.shares.proofs.StringsLaws.{split-joins}
 use Rattle.refresh.specs.Refresh.{refreshed, refresh-need}
 use Rattle.refresh.specs.Places.{refresh-sheet, refresh-count}
 use Rattle.refresh.proofs.RefreshLaws.{refresh-surplus}
@@ -40,7 +40,7 @@ use Rattle.probing.specs.Opening.{result, opening-sheet, opened, opening
 use Rattle.probing.specs.Opening.{opened-run, opened-chosen, opened-readings, Call-opens}
 use Rattle.probing.proofs.StringSteps.{Two, length-column, column-same}
 use Rattle.probing.proofs.CipherSteps.{call-step}
-use Rattle.probing.proofs.SplitLaws.{All-but, Both-but, two-split, two-split-coupled}
+use Rattle.probing.proofs.SplitLaws.{All-but, Both-but, split-shared, two-split, two-split-coupled}
 use Rattle.probing.proofs.SmallShares.{Small, split-small, column-below, made-small}
 use Rattle.probing.proofs.HidingLaws.{places-of, viewed-alike}
 
@@ -151,17 +151,14 @@ module _ (nk d : ℕ) where
   made-joins Forward = cipher-joins nk
   made-joins Inverse = inv-cipher-joins nk
 
-  split-shared : (l : ℕ) (xs ts : List ℕ) → length xs ≡ l → split-need d l ≤ length ts → Shared l d (split d xs ts)
-  split-shared l xs ts e h = rw e at (shared-split d xs ts (rw e h))
-
   -- what a call makes of a split key and a split block joins to the result
   made-result : (w : Direction) {key block : List ℕ} (ms ts : List ℕ) → 1 ≤ nk → Plain (4 * nk) key → Plain 16 block
       → masks-of-two d (4 * nk) 16 ≤ length ms
       → joined-string (made w nk d (split d key ms) (split d block (drop (split-need d (4 * nk)) ms)) ts) ≡ result w nk key block
   unfolding masks-of-two
   made-result w {key} {block} ms ts some pk pb enough =
-      made-joins w ts some (split-shared (4 * nk) key ms (pk .long) (omega arith))
-      (split-shared 16 block (drop (split-need d (4 * nk)) ms) (pb .long) (omega (arith, length-drop (split-need d (4 * nk)) ms)))
+      made-joins w ts some (split-shared d (4 * nk) pk ms (omega arith))
+      (split-shared d 16 pb (drop (split-need d (4 * nk)) ms) (omega (arith, length-drop (split-need d (4 * nk)) ms)))
       ∙ ap₂ (result w nk) (split-joins d key ms) (split-joins d block (drop (split-need d (4 * nk)) ms))
 
   module _ (w : Direction) (some : 1 ≤ nk) (ps : List ℕ) (few : length ps ≤ d) (below : Below (call-count w nk d + opening-count d in-block) ps)

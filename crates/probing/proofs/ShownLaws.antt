@@ -153,7 +153,7 @@ module _ (nk : ℕ) {d : ℕ} {k xs : Shares} (some : 1 ≤ nk) (hk : Shared (4 
       shown-last (preparation-count nk d) (keys-length nk) d (preparation-sheet nk d k ts) _ (preparation-end nk d k ts) keys-shared preparation-long
 
   -- block j of the blocks
-  block-shared : (j : ℕ) → j < n → Shared 16 d (block-of xs j)
+  pub block-shared : (j : ℕ) → j < n → Shared 16 d (block-of xs j)
   block-shared j l =
       map-shared (λ s. take 16 (drop (16 * j) s)) (λ s h. length-take-drop s h) hx
     where

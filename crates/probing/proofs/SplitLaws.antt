@@ -15,8 +15,8 @@ use Rattle.xor.specs.Sums.{xors}
 use Rattle.xor.proofs.ListsLaws.{all-append}
 use Rattle.xor.proofs.StringLaws.{xors-nil-r, xors-comm, xors-assoc, xors-back, length-xors, length-both}
 use Rattle.isw.proofs.MaskLaws.{xors-below}
-use Rattle.shares.specs.Strings.{Shares, joined-string, parts, split, split-need}
-use Rattle.shares.proofs.StringsLaws.{split-surplus}
+use Rattle.shares.specs.Strings.{Shares, Shared, joined-string, parts, split, split-need}
+use Rattle.shares.proofs.StringsLaws.{shared-split, split-surplus}
 use Rattle.cipher.proofs.StringLaws.{take-xors, drop-xors}
 use Rattle.gadgets.specs.Coupling.{Coupled}
 use Rattle.gadgets.proofs.CouplingLaws.{coupled-by, coupled-map, coupled-then, coupled-within}
@@ -170,6 +170,10 @@ module _ (d l : ℕ) (xs xs′ : List ℕ) (h : length xs ≡ l) (h′ : length 
   unfolding move
   move-below zero b b′ = done
   move-below (suc k) b b′ = lift-below k l (xors-below 8 b b′)
+
+-- a plain string, split
+pub split-shared : (d l : ℕ) {xs : List ℕ} → Plain l xs → (ts : List ℕ) → split-need d l ≤ length ts → Shared l d (split d xs ts)
+split-shared d l {xs} p ts h = rw (p .long) at (shared-split d xs ts (rw (p .long) h))
 
 -- splitting heeds no surplus
 pub split-more : (d l : ℕ) {xs : List ℕ} → Plain l xs → (us vs : List ℕ) → split-need d l ≤ length us → split d xs (us ++ vs) ≡ split d xs us

@@ -1,0 +1,3 @@
+pub mod SingleCalls
+pub mod Sessions
+pub mod Boxes
