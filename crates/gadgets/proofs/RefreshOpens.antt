@@ -1,5 +1,5 @@
--- A REFRESH WHOSE OUTPUT IS ALL SHOWN, of two inputs that join to one byte: any d places and all shares of the output are decided by as many shares of
--- the input as there are places, and by what they join to. Assumes nothing.
+-- A REFRESH WHOSE OUTPUT IS ALL SHOWN, of two inputs that join to one byte: any d places and all shares of the output are decided by as many shares
+-- of the input as there are places, and by what they join to. Assumes nothing.
 use mathlib.Core.Path.{_≡_, refl, sym, ap, ap₂, _∙_}
 use mathlib.Core.Logic.{_≢_}
 use mathlib.Core.Bool.{cond, _||_}
@@ -81,7 +81,8 @@ one-left (x ∷ xs) (y ∷ ys) (suc q) l h e =
 module _ (width d : ℕ) (ps : List ℕ) where
   -- outputs that agree but in share q, of inputs that join to one byte, agree in all
   agreed-opened : (q : ℕ) (xs xs′ ts ts′ : List ℕ) → length xs ≡ suc d → length xs′ ≡ suc d → joined xs ≡ joined xs′
-      → Agree (bytes d) (refresh-count d) ps (λ v. others (suc d) q) (refresh-sheet d xs ts, refreshed d xs ts) (refresh-sheet d xs′ ts′, refreshed d xs′ ts′)
+      → Agree (bytes d) (refresh-count d) ps (λ v. others (suc d) q)
+      (refresh-sheet d xs ts, refreshed d xs ts) (refresh-sheet d xs′ ts′, refreshed d xs′ ts′)
       → Opened (refresh-count d) ps (refresh-sheet d xs ts, refreshed d xs ts) (refresh-sheet d xs′ ts′, refreshed d xs′ ts′)
   agreed-opened q xs xs′ ts ts′ l l′ e r =
       record {

@@ -10,7 +10,7 @@ use lib.Dec.{eqb}
 use lib.ListN.{length, drop}
 use borrow.Author.Tests.{eq-eqb, lt-ltb}
 use Rattle.outcomes.specs.declared.Count.{Count}
-use Rattle.outcomes.specs.Outcome.{done, took, settled, served, reaches, test}
+use Rattle.outcomes.specs.Outcome.{Outcome, done, took, settled, served, reaches, test}
 use Rattle.outcomes.specs.declared.Refusal.the-variants.{Output, Tape}
 use Rattle.outcomes.proofs.OutcomeLaws.{all, _and_, settled-taken, settled-passed, le-reaches}
 use Rattle.tape_words.specs.Words.{bytes-of, words-for}
@@ -41,16 +41,17 @@ module _ (n nk d : ℕ) (order : served d ≡ true) (size : Key-size nk) {k xs :
   abbrev bs : List ℕ
   bs = bytes-of ws
 
-  -- the outcome of `prepare`, by the size of the key
-  prepare-is : (o : List ℕ) → Prepare-outcome d (laid k) ws o
-      ≡ settled (Keyed d nk (test Output (eqb (length o) (prepared-length nk d)) ∷ test Tape (reaches (length ws) (words-for (schedule-need nk d))) ∷ []))
-      (took (words-for (schedule-need nk d))) o (laid (schedule nk d k bs))
+  -- the outcome of `prepare` for a key of m words whose shares are ss
+  abbrev prepared-by : (m : ℕ) (ss : Shares) (o : List ℕ) → Outcome
+  prepared-by m ss o =
+      settled
+      (Keyed d m (test Output (eqb (length o) (prepared-length m d)) ∷ test Tape (reaches (length ws) (words-for (schedule-need m d))) ∷ []))
+      (took (words-for (schedule-need m d))) o (laid (schedule m d ss bs))
+
+  prepare-is : (o : List ℕ) → Prepare-outcome d (laid k) ws o ≡ prepared-by nk k o
   unfolding Prepare-outcome prepared-laid
   prepare-is o =
-      ap (λ (m : ℕ). settled (Keyed d m (test Output (eqb (length o) (prepared-length m d)) ∷ test Tape (reaches (length ws) (words-for (schedule-need m d))) ∷ []))
-      (took (words-for (schedule-need m d))) o (laid (schedule m d (parts (suc d) (4 * m) (laid k)) bs))) words
-      ∙ ap (λ (ss : Shares). settled (Keyed d nk (test Output (eqb (length o) (prepared-length nk d)) ∷ test Tape (reaches (length ws) (words-for (schedule-need nk d))) ∷ []))
-      (took (words-for (schedule-need nk d))) o (laid (schedule nk d ss bs))) (parts-laid hk)
+      ap (λ (m : ℕ). prepared-by m (parts (suc d) (4 * m) (laid k)) o) words ∙ ap (λ (ss : Shares). prepared-by nk ss o) (parts-laid hk)
 
   -- WHAT `prepare` PUTS OUT stands among the places
   pub prepare-of-choice : (o : List ℕ) → words-for (schedule-need nk d) ≤ length ws → length o ≡ suc d * keys-length nk
@@ -74,21 +75,21 @@ module _ (n nk d : ℕ) (order : served d ≡ true) (size : Key-size nk) {k xs :
       ∙ ap₂ (λ (m : ℕ) (l : List ℕ). drop m l) (mul-left-comm 4 j v ∙ ap (_*_ j) (encrypted-with-whole nk d))
       (bytes-drop u ws ∙ ap (λ (m : ℕ). drop m bs) (schedule-whole nk d))
 
-  -- the outcome of `encrypt_prepared` on the round keys
+  -- the outcome of `encrypt_prepared` for a key of m words, on round keys ks and a block x of l bytes in shares
+  abbrev encrypted-by : (m : ℕ) (ks x : Shares) (l : ℕ) (us p : List ℕ) → Outcome
+  encrypted-by m ks x l us p =
+      settled (Keyed d m (Block-tests (words-for (encrypted-with-need m d)) d l (length us) (length p)))
+      (took (words-for (encrypted-with-need m d))) p (laid (encrypted-with m d ks x (bytes-of us)))
+
   encrypt-is : (x : Shares) → Shared 16 d x → (us p : List ℕ)
-      → Encrypt-prepared-outcome d (laid (schedule nk d k bs)) (laid x) us p
-      ≡ settled (Keyed d nk (Block-tests (words-for (encrypted-with-need nk d)) d (length (laid x)) (length us) (length p)))
-      (took (words-for (encrypted-with-need nk d))) p (laid (encrypted-with nk d (schedule nk d k bs) x (bytes-of us)))
+      → Encrypt-prepared-outcome d (laid (schedule nk d k bs)) (laid x) us p ≡ encrypted-by nk (schedule nk d k bs) x (length (laid x)) us p
   unfolding Encrypt-prepared-outcome encrypted-with-laid prepared-length
   encrypt-is x h us p =
       let keys = schedule nk d k bs in
       let hs : Shared (keys-length nk) d keys = schedule-shared nk bs some hk in
       let e : prepared-words d (length (laid keys)) ≡ nk = ap (prepared-words d) (laid-length hs) ∙ prepared-words-of d size in
-      ap (λ (m : ℕ). settled (Keyed d m (Block-tests (words-for (encrypted-with-need m d)) d (length (laid x)) (length us) (length p)))
-      (took (words-for (encrypted-with-need m d))) p
-      (laid (encrypted-with m d (parts (suc d) (16 * suc (rounds m)) (laid keys)) (parts (suc d) 16 (laid x)) (bytes-of us)))) e
-      ∙ ap₂ (λ (ks ss : Shares). settled (Keyed d nk (Block-tests (words-for (encrypted-with-need nk d)) d (length (laid x)) (length us) (length p)))
-      (took (words-for (encrypted-with-need nk d))) p (laid (encrypted-with nk d ks ss (bytes-of us)))) (parts-laid hs) (parts-laid h)
+      ap (λ (m : ℕ). encrypted-by m (parts (suc d) (16 * suc (rounds m)) (laid keys)) (parts (suc d) 16 (laid x)) (length (laid x)) us p) e
+      ∙ ap₂ (λ (ks ss : Shares). encrypted-by nk ks ss (length (laid x)) us p) (parts-laid hs) (parts-laid h)
 
   -- WHAT `encrypt_prepared` PUTS OUT for block j, on what `prepare` put out and on the unused words, stands among the places
   pub encrypt-prepared-of-choice : (o keys : List ℕ) (c : Count) → Prepare-outcome d (laid k) ws o ≡ done c keys
@@ -107,6 +108,6 @@ module _ (n nk d : ℕ) (order : served d ≡ true) (size : Key-size nk) {k xs :
       ∙ encrypt-is (block-of xs j) h us p
       ∙ settled-passed _ p _
       (order and lt-ltb 0 nk some and eq-eqb _ _ (laid-length h) and eq-eqb _ _ room and le-reaches (length us) _ enough and all)
-      ∙ ap (λ (bs′ : List ℕ). done (took (words-for (encrypted-with-need nk d))) (laid (encrypted-with nk d (schedule nk d k bs) (block-of xs j) bs′)))
+      ∙ ap (λ (ts : List ℕ). done (took (words-for (encrypted-with-need nk d))) (laid (encrypted-with nk d (schedule nk d k bs) (block-of xs j) ts)))
       (ap (λ (m : ℕ). bytes-of (drop (j * words-for (encrypted-with-need nk d)) (drop m ws))) count ∙ left-bytes j)
       ∙ ap (done (took (words-for (encrypted-with-need nk d)))) (sym (block-shown nk some hk n hx bs j l))

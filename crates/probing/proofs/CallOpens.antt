@@ -64,7 +64,8 @@ record Opening-asked (d : ℕ) (ks ps : List ℕ) : Type 0 where
       → Coupled 8 (opening-need d ks) (Opened (opening-count d ks) ps)
       (λ ts. (opening-sheet d ks ss ts, opened d ks ss ts)) (λ ts. (opening-sheet d ks ss′ ts, opened d ks ss′ ts))
 
-module _ (d k : ℕ) (ks ps : List ℕ) (first : Refresh-asked 8 d (before (refresh-count d) ps)) (rest : Opening-asked d ks (beyond (refresh-count d) ps)) where
+module _ (d k : ℕ) (ks ps : List ℕ) (first : Refresh-asked 8 d (before (refresh-count d) ps))
+    (rest : Opening-asked d ks (beyond (refresh-count d) ps)) where
   abbrev count : ℕ
   count = refresh-count d + opening-count d ks
 
@@ -94,10 +95,14 @@ module _ (d k : ℕ) (ks ps : List ℕ) (first : Refresh-asked 8 d (before (refr
     one-surplus ss us vs h = λ i. (refresh-sheet-surplus d (column k ss) us vs h i, refresh-surplus d (column k ss) us vs h i)
 
     both : Coupled 8 (refresh-need d + opening-need d ks) (Opened count ps)
-        (λ ts. (refresh-sheet d (column k ss) ts ++ opening-sheet d ks ss (drop (refresh-need d) ts),
-        refreshed d (column k ss) ts ++ opened d ks ss (drop (refresh-need d) ts)))
-        (λ ts. (refresh-sheet d (column k ss′) ts ++ opening-sheet d ks ss′ (drop (refresh-need d) ts),
-        refreshed d (column k ss′) ts ++ opened d ks ss′ (drop (refresh-need d) ts)))
+        (λ ts. (
+          refresh-sheet d (column k ss) ts ++ opening-sheet d ks ss (drop (refresh-need d) ts),
+          refreshed d (column k ss) ts ++ opened d ks ss (drop (refresh-need d) ts),
+        ))
+        (λ ts. (
+          refresh-sheet d (column k ss′) ts ++ opening-sheet d ks ss′ (drop (refresh-need d) ts),
+          refreshed d (column k ss′) ts ++ opened d ks ss′ (drop (refresh-need d) ts),
+        ))
     both =
         coupled-then 8 (refresh-need d) (opening-need d ks) (Opened (refresh-count d) (before (refresh-count d) ps)) (Opened count ps)
         (λ ts. (refresh-sheet d (column k ss) ts, refreshed d (column k ss) ts))
@@ -196,7 +201,8 @@ module _ (nk d : ℕ) where
       -- what both make may be opened alike
       made-alike : (ts ts′ : List ℕ) → Tape 8 (cipher-need nk d) ts → Tape 8 (cipher-need nk d) ts′
           → Agree (Two d) c (before c ps) (λ v. opening .of)
-          (call-sheet w nk d k x ts, (schedule nk d k ts, made w nk d k x ts)) (call-sheet w nk d k′ x′ ts′, (schedule nk d k′ ts′, made w nk d k′ x′ ts′))
+          (call-sheet w nk d k x ts, (schedule nk d k ts, made w nk d k x ts))
+          (call-sheet w nk d k′ x′ ts′, (schedule nk d k′ ts′, made w nk d k′ x′ ts′))
           → Alike-in d (opening .of) (made w nk d k x ts) (made w nk d k′ x′ ts′)
       made-alike ts ts′ t t′ r =
           record {
@@ -268,7 +274,8 @@ opening-surplus d (k ∷ ks) ss us vs h =
     let n = refresh-need d in
     let g : opening-need d ks ≤ length (drop n us) = omega (arith, length-drop n us) in
     let e = opening-surplus d ks ss (drop n us) vs g in
-    rw (drop-append-le n us vs (omega arith), refresh-sheet-surplus d (column k ss) us vs (omega arith), refresh-surplus d (column k ss) us vs (omega arith))
+    let enough : n ≤ length us = omega arith in
+    rw (drop-append-le n us vs enough, refresh-sheet-surplus d (column k ss) us vs enough, refresh-surplus d (column k ss) us vs enough)
     (λ i. (refresh-sheet d (column k ss) us ++ e i .0, refreshed d (column k ss) us ++ e i .1))
 
 run-heedless : (w : Direction) (nk d : ℕ) (k x : Shares) (us vs : List ℕ) → opened-need nk d ≤ length us
@@ -287,8 +294,8 @@ run-heedless w nk d k x us vs h =
 pub call-opens : (w : Direction) → Call-opens w
 unfolding Call-opens opened-readings opened-count
 call-opens w nk d n vs rs out key block key′ block′ some enough few below pk pk′ pb pb′ one =
-    choices-alike (masks-of-two d (4 * nk) 16) (opened-need nk d) n (passed key block) (passed key′ block′) (heedless key block) (heedless key′ block′)
-    enough
+    choices-alike (masks-of-two d (4 * nk) 16) (opened-need nk d) n (passed key block) (passed key′ block′)
+    (heedless key block) (heedless key′ block′) enough
     (counted 8 (masks-of-two d (4 * nk) 16 + opened-need nk d) (Opened (call-count w nk d + opening-count d in-block) (places-of vs)) _ _ test
     (λ y y′ q. ap₂ (λ (l m : List ℕ). same l rs && same m out) (viewed-alike vs (y .0) (y′ .0) (q .shown)) (q .equal))
     (all-coupled nk d w some (places-of vs) (rw length-map few) (all-to-map (λ v. v .0) below) pk pk′ pb pb′ one))

@@ -1,5 +1,5 @@
--- KEY EXPANSION, ENCRYPTION, DECRYPTION AND SESSIONS HIDE: they are composed of S-boxes, which are strongly non-interfering, and of steps on each share
--- by itself. Each step lemma follows its definition. Assumes nothing.
+-- KEY EXPANSION, ENCRYPTION, DECRYPTION AND SESSIONS HIDE: they are composed of S-boxes, which are strongly non-interfering, and of steps on each
+-- share by itself. Each step lemma follows its definition. Assumes nothing.
 use mathlib.Core.Path.{refl, ap, _≡_}
 use mathlib.Core.List.{List, _++_, map}
 use Prim.Native.Nat.{ℕ, zero, suc, _+_, _-_, _*_, _/_}
@@ -24,7 +24,8 @@ use Rattle.probing.specs.RoundPlaces.{mixed-places, inverse-mixed-places
 use Rattle.probing.specs.RoundPlaces.{round-sheet, round-count, last-round-sheet, last-round-count, rounds-sheet, rounds-count}
 use Rattle.probing.specs.RoundPlaces.{inv-round-sheet, inv-round-count, inv-last-round-sheet, inv-rounds-sheet, inv-rounds-count}
 use Rattle.probing.specs.CallPlaces.{encrypted-with-sheet, encrypted-with-count, encryption-sheet, encryption-count}
-use Rattle.probing.specs.CallPlaces.{decrypted-with-sheet, decrypted-with-count, decryption-sheet, decryption-count, call-sheet, call-count, made}
+use Rattle.probing.specs.CallPlaces.{decrypted-with-sheet, decrypted-with-count, decryption-sheet, decryption-count}
+use Rattle.probing.specs.CallPlaces.{call-sheet, call-count, made}
 use Rattle.probing.specs.SessionPlaces.{block-of, keys-length, preparation-sheet, preparation-count, block-sheet, block-count}
 use Rattle.probing.specs.SessionPlaces.{blocks-sheet, blocks-need, blocks-count, session-sheet, session-need, session-count}
 use Rattle.probing.proofs.StringSteps.{Strings, Two, Reads, reads-self, reads-first, reads-second, reads-map, reads-adds, reads-behind}

@@ -1,5 +1,5 @@
--- A masked product of which also both factors of each field product are shown is strongly non-interfering all the same, since a wide place asks no more
--- than one share of each factor. Assumes nothing.
+-- A masked product of which also both factors of each field product are shown is strongly non-interfering all the same, since a wide place asks no
+-- more than one share of each factor. Assumes nothing.
 use mathlib.Core.Path.{_≡_, refl, sym, ap, ap₂, _∙_}
 use mathlib.Core.List.{List, [], _∷_, _++_}
 use Prim.Native.Nat.{ℕ, suc, _+_, _*_, _≤_}

@@ -137,8 +137,8 @@ module _ (w : Direction) (nk d k m n : ℕ) where
   chosen-bytes key block ws =
       rw (bytes-take k ws, bytes-take m (drop k ws), bytes-drop m (drop k ws), bytes-drop k ws) refl
 
-  module _ (enough-k : words-for (split-need d (4 * nk)) ≤ k) (enough-m : words-for (split-need d 16) ≤ m) (enough-n : words-for (cipher-need nk d) ≤ n)
-      (ps : List ℕ) (few : length ps ≤ d) (below : Below (call-count w nk d) ps)
+  module _ (enough-k : words-for (split-need d (4 * nk)) ≤ k) (enough-m : words-for (split-need d 16) ≤ m)
+      (enough-n : words-for (cipher-need nk d) ≤ n) (ps : List ℕ) (few : length ps ≤ d) (below : Below (call-count w nk d) ps)
       {key key′ block block′ : List ℕ} (pk : Plain (4 * nk) key) (pk′ : Plain (4 * nk) key′) (pb : Plain 16 block) (pb′ : Plain 16 block′) where
     abbrev q : ℕ
     q = free (4 * nk) 16 d (cipher-need nk d) (call-count w nk d) (call-sheet w nk d) _ (call-step d w nk) ps few below .0

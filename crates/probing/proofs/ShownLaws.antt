@@ -1,5 +1,5 @@
--- What a call puts out stands among its places: the output's shares, share after share as the call lays them out, the prepared keys, and the shares of
--- an S-box. Assumes nothing.
+-- What a call puts out stands among its places: the output's shares, share after share as the call lays them out, the prepared keys, and the shares
+-- of an S-box. Assumes nothing.
 use mathlib.Core.Path.{_≡_, refl, sym, ap, ap₂, _∙_}
 use mathlib.Core.List.{List, [], _++_, map, append-assoc, append-nil}
 use Prim.Native.Nat.{ℕ, zero, suc, _+_, _-_, _*_, _%_, _≤_, _<_}
@@ -29,7 +29,8 @@ use Rattle.probing.specs.BoxPlaces.{power-sheet, power-count, share-corr
 use Rattle.probing.specs.StringPlaces.{shares-sheet, whole-sheet, string-sheet, subs-sheet}
 use Rattle.probing.specs.SchedulePlaces.{schedule-sheet}
 use Rattle.probing.specs.RoundPlaces.{round-sheet, last-round-sheet, rounds-sheet, inv-round-sheet, inv-last-round-sheet, inv-rounds-sheet}
-use Rattle.probing.specs.CallPlaces.{encrypted-with-sheet, encryption-sheet, decrypted-with-sheet, decryption-sheet, call-sheet, call-count, made}
+use Rattle.probing.specs.CallPlaces.{encrypted-with-sheet, encryption-sheet, decrypted-with-sheet, decryption-sheet}
+use Rattle.probing.specs.CallPlaces.{call-sheet, call-count, made}
 use Rattle.probing.specs.SessionPlaces.{block-of, keys-length, preparation-sheet, preparation-count, block-sheet, block-count}
 use Rattle.probing.specs.SessionPlaces.{blocks-sheet, session-sheet}
 use Rattle.probing.specs.Shown.{places-from}
@@ -76,12 +77,14 @@ inv-rounds-end zero d ks s ts =
 inv-rounds-end (suc r) d ks s ts =
     ends-more (inv-round-sheet d (suc r) ks s ts) _ _ (inv-rounds-end r d ks (masked-inv-round d (suc r) ks s ts) (drop (round-need d) ts))
 
-encrypted-with-end : (nk d : ℕ) (ks x : Shares) (ts : List ℕ) → Ends (encrypted-with-sheet nk d ks x ts) (shares-sheet 16 (encrypted-with nk d ks x ts))
+encrypted-with-end : (nk d : ℕ) (ks x : Shares) (ts : List ℕ)
+    → Ends (encrypted-with-sheet nk d ks x ts) (shares-sheet 16 (encrypted-with nk d ks x ts))
 unfolding encrypted-with-sheet encrypted-with
 encrypted-with-end nk d ks x ts =
     ends-more (string-sheet 16 (adds x (round-keys ks 0))) _ _ (rounds-end (rounds nk - 1) 1 d ks (adds x (round-keys ks 0)) ts)
 
-decrypted-with-end : (nk d : ℕ) (ks x : Shares) (ts : List ℕ) → Ends (decrypted-with-sheet nk d ks x ts) (shares-sheet 16 (decrypted-with nk d ks x ts))
+decrypted-with-end : (nk d : ℕ) (ks x : Shares) (ts : List ℕ)
+    → Ends (decrypted-with-sheet nk d ks x ts) (shares-sheet 16 (decrypted-with nk d ks x ts))
 unfolding decrypted-with-sheet decrypted-with
 decrypted-with-end nk d ks x ts =
     ends-more (string-sheet 16 (adds x (round-keys ks (rounds nk)))) _ _
@@ -147,7 +150,8 @@ module _ (nk : ℕ) {d : ℕ} {k xs : Shares} (some : 1 ≤ nk) (hk : Shared (4 
 
   -- THE PREPARED KEYS stand at the last places of the preparation
   pub prepared-shown :
-      places-from (preparation-count nk d - suc d * keys-length nk) (suc d * keys-length nk) (session-sheet n nk d k xs ts) ≡ laid (schedule nk d k ts)
+      places-from (preparation-count nk d - suc d * keys-length nk) (suc d * keys-length nk) (session-sheet n nk d k xs ts)
+      ≡ laid (schedule nk d k ts)
   unfolding session-sheet
   prepared-shown =
       shown-last (preparation-count nk d) (keys-length nk) d (preparation-sheet nk d k ts) _ (preparation-end nk d k ts) keys-shared preparation-long
