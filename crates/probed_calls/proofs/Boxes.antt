@@ -1,9 +1,9 @@
 -- Of `masked_box`, by the outcome that its contract names: a call on the shares and the tape of a choice is carried through, and the shares that it
 -- puts out stand among the places that the hiding rule counts. Assumes nothing.
-use mathlib.Core.Path.{_≡_, refl, sym, ap, _∙_}
+use mathlib.Core.Path.{_≡_, sym, ap, _∙_}
 use mathlib.Core.Bool.{true}
 use mathlib.Core.List.{List}
-use Prim.Native.Nat.{ℕ, suc, _+_, _*_, _≤_, _<_}
+use Prim.Native.Nat.{ℕ, suc, _+_, _*_, _≤_}
 use lib.ListN.{length}
 use borrow.Author.Tests.{eq-eqb}
 use Rattle.xor.specs.Lists.{at, tab}
@@ -15,8 +15,7 @@ use Rattle.outcomes.proofs.OutcomeLaws.{all, _and_, settled-passed, le-reaches}
 use Rattle.tape_words.specs.Words.{bytes-of, words-for}
 use Rattle.sbox.specs.Box.{box, box-need}
 use Rattle.sbox.specs.Calls.{Box-outcome}
-use Rattle.probing.specs.BoxPlaces.{power-count, box-sheet}
-use Rattle.probing.specs.Hiding.{Run}
+use Rattle.probing.specs.BoxPlaces.{power-count}
 use Rattle.probing.specs.Runs.{box-run}
 use Rattle.probing.proofs.BoxStrong.{box-strong}
 use Rattle.probing.proofs.ShownLaws.{box-shown}

@@ -1,6 +1,6 @@
 -- Of `prepare` and then `encrypt_prepared`, by the outcomes that their contracts name: on the shares and the tape of a choice both are carried
 -- through, and what they put out stands among the places that the hiding rule of a session counts. Assumes nothing.
-use mathlib.Core.Path.{_≡_, refl, sym, ap, ap₂, _∙_}
+use mathlib.Core.Path.{_≡_, sym, ap, ap₂, _∙_}
 use mathlib.Core.Bool.{true}
 use mathlib.Core.List.{List, [], _∷_}
 use Prim.Native.Nat.{ℕ, suc, _+_, _*_, _-_, _≤_, _<_}

@@ -1,9 +1,9 @@
 -- Of `encrypt` and `decrypt`, by the outcomes that their contracts name: a call on the shares and the tape of a choice is carried through, and the
 -- shares that it puts out stand among the places that the hiding rule counts. Assumes nothing.
-use mathlib.Core.Path.{_≡_, refl, sym, ap, ap₂, _∙_}
+use mathlib.Core.Path.{_≡_, sym, ap, ap₂, _∙_}
 use mathlib.Core.Bool.{true}
 use mathlib.Core.List.{List}
-use Prim.Native.Nat.{ℕ, suc, _+_, _*_, _-_, _≤_}
+use Prim.Native.Nat.{ℕ, suc, _*_, _-_, _≤_}
 use native.Mathlib.Omega.{arith}
 use lib.ListN.{length, take, drop, length-drop}
 use borrow.Author.Tests.{eq-eqb, lt-ltb}
@@ -15,7 +15,7 @@ use Rattle.outcomes.proofs.OutcomeLaws.{all, _and_, settled-taken, settled-pass
 use Rattle.outcomes.proofs.LengthsLaws.{share-length-16, share-length-24, share-length-32}
 use Rattle.tape_words.specs.Words.{bytes-of, words-for}
 use Rattle.tape_words.proofs.WordsLaws.{words-reach}
-use Rattle.shares.specs.Strings.{Shares, Shared, laid, parts, split, split-need}
+use Rattle.shares.specs.Strings.{Shares, Shared, laid, split, split-need}
 use Rattle.shares.specs.Calls.{Split-outcome}
 use Rattle.shares.proofs.StringsLaws.{laid-length, parts-laid}
 use Rattle.shares.proofs.CallsLaws.{split-passed}
@@ -28,7 +28,6 @@ use Rattle.aes.specs.Directions.{laid-of, Single-outcome}
 use Rattle.aes.proofs.CallsLaws.{single-is}
 use Rattle.probing.specs.CallPlaces.{call-sheet, call-count, made}
 use Rattle.probing.specs.Shown.{places-from}
-use Rattle.probing.specs.Hiding.{Run}
 use Rattle.probing.specs.Runs.{Plain, masks-of-two, call-run, split-chosen}
 use Rattle.probing.proofs.SplitLaws.{split-shared}
 use Rattle.probing.proofs.ShownLaws.{call-shown}

@@ -12,12 +12,12 @@ use Rattle.gf256.specs.declared.Direction.the-variants.{Forward, Inverse}
 use Rattle.gf256.specs.Field.{times, squared, fourth, sixteenth}
 use Rattle.gf256.specs.Directions.{affine-of, constant-of}
 use Rattle.gf256.proofs.ProductLaws.{squared-lt, fourth-lt}
-use Rattle.isw.specs.Place.{place-count, product-need, sheet}
+use Rattle.isw.specs.Place.{product-need, sheet}
 use Rattle.refresh.specs.Refresh.{into, refresh-need}
 use Rattle.refresh.specs.Places.{refresh-sheet, refresh-count}
 use Rattle.refresh.proofs.RefreshLaws.{length-into}
 use Rattle.power254.specs.Power254.{masked-product, stage-z, stage-y, stage-w, stage-v, stage-last, stage-need, power-254, power-need}
-use Rattle.gadgets.specs.Steps.{Hidden, each-share}
+use Rattle.gadgets.specs.Steps.{Hidden}
 use Rattle.gadgets.specs.Gadgets.{Strong}
 use Rattle.gadgets.specs.Cube.{cube-factor, cube-sheet}
 use Rattle.gadgets.proofs.StepsLaws.{recount, then, show-then}

@@ -34,13 +34,13 @@ use Rattle.cipher.specs.Cipher.{cipher-need, schedule}
 use Rattle.cipher.proofs.StatesLaws.{column-joins}
 use Rattle.cipher.proofs.Accuracy.{cipher-joins, inv-cipher-joins}
 use Rattle.probing.specs.CallPlaces.{call-sheet, call-count, made}
-use Rattle.probing.specs.Hiding.{View, viewed}
+use Rattle.probing.specs.Hiding.{viewed}
 use Rattle.probing.specs.Runs.{Plain, masks-of-two}
 use Rattle.probing.specs.Opening.{result, opening-sheet, opened, opening-need, opening-count, in-block, opened-need, opened-count}
 use Rattle.probing.specs.Opening.{opened-run, opened-chosen, opened-readings, Call-opens}
 use Rattle.probing.proofs.StringSteps.{Two, length-column, column-same}
 use Rattle.probing.proofs.CipherSteps.{call-step}
-use Rattle.probing.proofs.SplitLaws.{All-but, Both-but, split-shared, two-split, two-split-coupled}
+use Rattle.probing.proofs.SplitLaws.{Both-but, split-shared, two-split, two-split-coupled}
 use Rattle.probing.proofs.SmallShares.{Small, split-small, column-below, made-small}
 use Rattle.probing.proofs.HidingLaws.{places-of, viewed-alike}
 

@@ -1,7 +1,7 @@
 -- KEY EXPANSION, ENCRYPTION, DECRYPTION AND SESSIONS HIDE: they are composed of S-boxes, which are strongly non-interfering, and of steps on each
 -- share by itself. Each step lemma follows its definition. Assumes nothing.
 use mathlib.Core.Path.{refl, ap, _≡_}
-use mathlib.Core.List.{List, _++_, map}
+use mathlib.Core.List.{List, map}
 use Prim.Native.Nat.{ℕ, zero, suc, _+_, _-_, _*_, _/_}
 use native.Mathlib.Nat.{zero-add}
 use lib.ListN.{length, take, drop}
@@ -17,7 +17,7 @@ use Rattle.cipher.specs.Cipher.{in-word, masked-temp, temp-need, words, masked-
 use Rattle.cipher.specs.Cipher.{by-rows, round-keys, masked-round, masked-last-round, round-need, masked-rounds, rounds-need}
 use Rattle.cipher.specs.Cipher.{encrypted-with, encrypted-with-need, encrypted, cipher-need}
 use Rattle.cipher.specs.Cipher.{masked-inv-last-round, masked-inv-round, masked-inv-rounds, decrypted-with, decrypted}
-use Rattle.probing.specs.StringPlaces.{string-sheet, string-count, subs-count}
+use Rattle.probing.specs.StringPlaces.{string-count, subs-count}
 use Rattle.probing.specs.SchedulePlaces.{temp-sheet, temp-count, word-sheet, word-count, schedule-from-sheet, schedule-from-count}
 use Rattle.probing.specs.SchedulePlaces.{schedule-sheet, schedule-count}
 use Rattle.probing.specs.RoundPlaces.{mixed-places, inverse-mixed-places, mix-bytes, inv-mix-bytes, mix-sheet, inv-mix-sheet}

@@ -23,12 +23,12 @@ use Rattle.gadgets.proofs.GadgetsLaws.{Shown, strong-coupled, counted, how-many
 use Rattle.cipher.specs.Cipher.{cipher-need}
 use Rattle.probing.specs.CallPlaces.{call-sheet, call-count}
 use Rattle.probing.specs.SessionPlaces.{session-sheet, session-need, session-count}
-use Rattle.probing.specs.Hiding.{View, viewed, Hides, Views-hide, Words-hide}
+use Rattle.probing.specs.Hiding.{viewed, Hides, Views-hide, Words-hide}
 use Rattle.probing.specs.Runs.{Plain, box-run, masks-of-two, two-run, call-run, session-run, split-chosen, split-readings, Split-call-hides}
 use Rattle.probing.proofs.BoxStrong.{box-strong}
 use Rattle.probing.proofs.StringSteps.{Two}
 use Rattle.probing.proofs.CipherSteps.{call-step, session-step}
-use Rattle.probing.proofs.SplitLaws.{All-but, Both-but, two-split, split-more, split-coupled, two-split-coupled}
+use Rattle.probing.proofs.SplitLaws.{All-but, Both-but, two-split, split-coupled, two-split-coupled}
 use Rattle.probing.proofs.HidingLaws.{Coupled-run, places-of, viewed-alike, hides, views-hide, words-hide}
 
 -- ---- ONE S-BOX

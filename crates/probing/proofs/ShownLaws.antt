@@ -22,7 +22,7 @@ use Rattle.cipher.specs.Fips197.{rounds, inv-shift-rows}
 use Rattle.cipher.specs.States.{adds}
 use Rattle.cipher.specs.Cipher.{by-rows, round-keys, schedule, schedule-need, masked-round, masked-last-round, round-need, masked-rounds}
 use Rattle.cipher.specs.Cipher.{encrypted-with, encrypted-with-need, encrypted, masked-inv-round, masked-inv-last-round, masked-inv-rounds}
-use Rattle.cipher.specs.Cipher.{decrypted-with, decrypted, cipher-need}
+use Rattle.cipher.specs.Cipher.{decrypted-with, decrypted}
 use Rattle.cipher.proofs.Accuracy.{schedule-shared, encrypted-with-shared, encrypted-shared, decrypted-shared}
 use Rattle.cipher.proofs.StatesLaws.{map-shared}
 use Rattle.probing.specs.BoxPlaces.{power-sheet, power-count, share-corrected, affine-bytes, affine-sheet, box-sheet}

@@ -1,6 +1,6 @@
 -- Bytes stay bytes: the shares that a call makes of shares and a tape of bytes are bytes. Assumes nothing.
 use mathlib.Core.List.{List, [], _∷_, map}
-use Prim.Native.Nat.{ℕ, zero, suc, _-_, _*_, _/_, _<_}
+use Prim.Native.Nat.{ℕ, zero, suc, _-_, _/_, _<_}
 use lib.ListN.{length, drop, set}
 use Rattle.xor.specs.Lists.{All, done, _&_, Below}
 use Rattle.xor.proofs.ListsLaws.{all-append, all-take, all-drop, at-below}
