@@ -99,9 +99,9 @@ extern "C" {
  * under the same names; so this header refers to a function whose name
  * carries the version, and an archive of another version does not have it.
  */
-#define DOKKUMEL_VERSION          80
+#define DOKKUMEL_VERSION          81
 
-uint32_t dokkumel_version_80(void);
+uint32_t dokkumel_version_81(void);
 
 #if defined(__GNUC__)
 #if defined(__has_attribute)
@@ -110,7 +110,7 @@ __attribute__((retain))
 #endif
 #endif
 __attribute__((used))
-static uint32_t (*const dokkumel_linked_version)(void) = dokkumel_version_80;
+static uint32_t (*const dokkumel_linked_version)(void) = dokkumel_version_81;
 #endif
 
 #define DOKKUMEL_OK               0

@@ -3,8 +3,8 @@
 ghost use mathlib.Core.Path.{_≡_};
 
 #[no_mangle]
-pub extern "C" fn dokkumel_version_80() -> u32
-    ensures { λ r. ⌜ r ≡ 80 ⌝ }
+pub extern "C" fn dokkumel_version_81() -> u32
+    ensures { λ r. ⌜ r ≡ 81 ⌝ }
 {
-    80
+    81
 }
