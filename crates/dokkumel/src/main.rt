@@ -10,7 +10,7 @@ use command_line::commands::Command;
 use command_line::faults;
 use command_line::help;
 use command_lists::layout;
-use command_lists::places;
+use command_places::places;
 use command_previews::previews;
 
 fn run(c: Command) {
