@@ -1,6 +1,6 @@
 -- How many places a call has. Assumes nothing.
 use mathlib.Core.Path.{_≡_}
-use Prim.Native.Nat.{ℕ, suc, _+_, _*_, _≤_}
+use Prim.Native.Nat.{ℕ, _≤_}
 use native.Mathlib.Omega.{arith}
 use Rattle.gf256.specs.declared.Direction.{Direction}
 use Rattle.gf256.specs.declared.Direction.the-variants.{Forward, Inverse}

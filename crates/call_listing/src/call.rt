@@ -1,6 +1,6 @@
 // The listing of a whole call: how its lines are read, the shares of the key and of the block, the key expansion, the rounds.
 ghost use mathlib.Core.Path.{_≡_};
-ghost use Prim.Native.Nat.{_+_, _*_, _-_, _≤_};
+ghost use Prim.Native.Nat.{_+_, _*_, _≤_};
 ghost use Rattle.lengths.specs.Lengths.{Key-size};
 ghost use Rattle.probing.specs.StringPlaces.{string-count};
 ghost use Rattle.probing.specs.CallPlaces.{call-count};

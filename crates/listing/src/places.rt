@@ -1,7 +1,7 @@
 // The places of a product by number and name, in document 01's order. Each function prints some lines, beginning with number k, and answers with
 // the number behind its last. A sheet adds the byte at each place; an empty one adds nothing.
 ghost use mathlib.Core.Path.{_≡_};
-ghost use Prim.Native.Nat.{suc, _+_, _*_, _-_, _≤_, _<_};
+ghost use Prim.Native.Nat.{_+_, _*_, _-_, _≤_, _<_};
 ghost use Rattle.xor.specs.Pairs.{pair-count};
 ghost use Rattle.isw.specs.Place.{place-count};
 ghost use Rattle.listing.specs.Most.{most};

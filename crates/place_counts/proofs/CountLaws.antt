@@ -1,6 +1,6 @@
 -- The code's counts are those of the definitions, and fit. Assumes nothing.
 use mathlib.Core.Path.{_≡_}
-use Prim.Native.Nat.{ℕ, suc, _+_, _*_, _≤_}
+use Prim.Native.Nat.{ℕ, _+_, _*_, _≤_}
 use native.Mathlib.Nat.{mul-le-mul}
 use native.Mathlib.Omega.{arith}
 use Rattle.xor.proofs.PairsLaws.{pair-count-is, pair-count-twice}

@@ -13,7 +13,9 @@ print-requires : tie.Need-print-requires
 print-requires c κs = search needs
 
 power-requires : tie.Need-power-requires
-power-requires c κs = let d = c .before .before .args .d in (omega arith, omega (arith, box-parts d, box-count-bound d (omega arith)))
+power-requires c κs =
+    let d = c .before .before .args .d in
+    (omega arith, omega (arith, box-parts d, box-count-bound d (omega arith)))
 
 slice-aggregate-print-2 : tie.Need-slice-aggregate-print-2
 slice-aggregate-print-2 c = search needs
@@ -31,7 +33,9 @@ add-affine : tie.Need-add-affine
 add-affine c = search needs
 
 affine-requires : tie.Need-affine-requires
-affine-requires c κs = let d = c .before .before .before .before .before .before .before .args .d in omega (arith, box-parts d, box-count-bound d (omega arith))
+affine-requires c κs =
+    let d = c .before .before .before .before .before .before .before .args .d in
+    omega (arith, box-parts d, box-count-bound d (omega arith))
 
 returns : tie.Need-returns
 returns c = omega (arith, box-parts (c .before .before .before .before .before .before .before .before .args .d))

@@ -31,7 +31,9 @@ print-requires-2 : tie.Need-print-requires-2
 print-requires-2 c κs = search needs
 
 power-requires : tie.Need-power-requires
-power-requires c κs = let d = c .before .before .before .before .before .before .before .args .d in (omega arith, omega (arith, box-parts d, box-count-bound d (omega arith)))
+power-requires c κs =
+    let d = c .before .before .before .before .before .before .before .args .d in
+    (omega arith, omega (arith, box-parts d, box-count-bound d (omega arith)))
 
 returns : tie.Need-returns
 returns c = omega (arith, box-parts (c .before .before .before .before .before .before .before .before .args .d))

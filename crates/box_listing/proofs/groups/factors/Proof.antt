@@ -1,8 +1,6 @@
 -- `box_listing::groups::factors` meets its contract. Assumes nothing.
 use mathlib.Core.Path.{_≡_}
 use Prim.Native.Nat.{_+_, _*_, _-_, _≤_}
-use native.Mathlib.Nat.{mul-le-mul}
-use native.Mathlib.Omega.{arith}
 use borrow.Author.Needs.{needs}
 use Rattle.box_listing.proofs.groups.factors.Statement.{statement}
 use Rattle.box_listing.proofs.groups.factors.Tie as tie

@@ -36,7 +36,9 @@ print-requires-2 : tie.Need-print-requires-2
 print-requires-2 c κs = search needs
 
 factors-requires : tie.Need-factors-requires
-factors-requires c κs = (omega arith, omega arith, omega (arith, first-parts (c .before .before .before .before .before .before .before .before .before .args .d)))
+factors-requires c κs =
+    let d = c .before .before .before .before .before .before .before .before .before .args .d in
+    (omega arith, omega arith, omega (arith, first-parts d))
 
 returns : tie.Need-returns
 returns c = omega (arith, first-parts (c .before .before .before .before .before .before .before .before .before .before .args .d))

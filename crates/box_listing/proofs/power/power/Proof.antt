@@ -1,6 +1,5 @@
 -- `box_listing::power::power` meets its contract. Assumes nothing.
 use native.Mathlib.Omega.{arith}
-use borrow.Author.Needs.{needs}
 use Rattle.box_listing.proofs.PartLaws.{power-parts}
 use Rattle.box_listing.proofs.power.power.Statement.{statement}
 use Rattle.box_listing.proofs.power.power.Tie as tie

@@ -1,6 +1,5 @@
 -- `call_listing::boxes::of_round` meets its contract. Assumes nothing.
 use native.Mathlib.Omega.{arith}
-use borrow.Author.Needs.{needs}
 use Rattle.call_listing.proofs.WalkLaws.{by-rows-count}
 use Rattle.call_listing.proofs.boxes.of_round.Statement.{statement}
 use Rattle.call_listing.proofs.boxes.of_round.Tie as tie

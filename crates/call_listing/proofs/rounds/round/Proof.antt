@@ -1,6 +1,5 @@
 -- `call_listing::rounds::round` meets its contract. Assumes nothing.
 use native.Mathlib.Omega.{arith}
-use borrow.Author.Needs.{needs}
 use Rattle.call_listing.proofs.WalkLaws.{round-parts}
 use Rattle.call_listing.proofs.rounds.round.Statement.{statement}
 use Rattle.call_listing.proofs.rounds.round.Tie as tie

@@ -1,6 +1,6 @@
 -- `listing::places::factor` meets its contract. Assumes nothing.
 use mathlib.Core.Path.{_≡_}
-use Prim.Native.Nat.{_+_, _*_, _≤_, _-_}
+use Prim.Native.Nat.{_+_, _≤_, _-_}
 use borrow.Author.Needs.{needs}
 use Rattle.listing.proofs.places.factor.Statement.{statement}
 use Rattle.listing.proofs.places.factor.Tie as tie
