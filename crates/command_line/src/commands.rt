@@ -120,13 +120,13 @@ pub fn has_words(count: usize, wanted: usize) -> bool {
     true
 }
 
-// Whether a line of that many words has the command's arguments; if not, a line says so. How many follow, `read`, `read-cube` and `preview` find out
-// for themselves.
+// Whether a line of that many words has the command's arguments; if not, a line says so. How many follow, `places`, `read`, `read-cube` and `preview`
+// find out for themselves.
 pub fn is_whole(c: Command, count: usize) -> bool {
     let wanted = length(c);
     match c {
-        Command::Read | Command::ReadCube | Command::Preview | Command::Unknown => count >= wanted
-            || has_words(count, wanted),
+        Command::Places | Command::Read | Command::ReadCube | Command::Preview | Command::Unknown =>
+            count >= wanted || has_words(count, wanted),
         _ => has_words(count, wanted),
     }
 }

@@ -4,9 +4,9 @@ use outcomes::Refusal;
 use text::answers;
 use text::decimal::Number;
 
-// ORDER, where it is one that is served; if it is none, a line says so.
-pub fn served_order() -> Number {
-    let order = arguments::number(2, b"ORDER");
+// ORDER, argument i, where it is one that is served; if it is none, a line says so.
+pub fn served_order(i: usize) -> Number {
+    let order = arguments::number(i, b"ORDER");
     if !order.good || outcomes::asked::served(order.value) {
         return order;
     }
@@ -18,7 +18,7 @@ pub fn served_order() -> Number {
 }
 
 pub fn run() {
-    let order = served_order();
+    let order = served_order(2);
     if order.good {
         listing::places::print(order.value, &[]);
     }

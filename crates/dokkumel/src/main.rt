@@ -1,5 +1,6 @@
 // The command line of the library, for the support desk and the laboratory: each routine on shares in hexadecimal, the sheets of a product and of
-// the cube with the names of their places, and the steps that the bytes of a tape go into. `dokkumel help` lists the commands.
+// the cube with the names of their places, the places of an S-box and of whole calls, and the steps that the bytes of a tape go into.
+// `dokkumel help` lists the commands.
 //
 // A refused call prints `refused N: CAUSE` on standard output. A command line that cannot be read gets one line on standard error. The exit
 // status is 0 in every case, since a program in Rattle has no other.
@@ -10,7 +11,7 @@ use command_line::commands::Command;
 use command_line::faults;
 use command_line::help;
 use command_lists::layout;
-use command_lists::places;
+use command_places::places;
 use command_previews::previews;
 
 fn run(c: Command) {

@@ -1,6 +1,10 @@
 // The places of a product by number and name, in document 01's order. Each function prints some lines, beginning with number k, and answers with
 // the number behind its last. A sheet adds the byte at each place; an empty one adds nothing.
-ghost use Prim.Native.Nat.{_≤_};
+ghost use mathlib.Core.Path.{_≡_};
+ghost use Prim.Native.Nat.{_+_, _*_, _-_, _≤_, _<_};
+ghost use Rattle.xor.specs.Pairs.{pair-count};
+ghost use Rattle.isw.specs.Place.{place-count};
+ghost use Rattle.listing.specs.Most.{most};
 use crate::lines;
 
 // `a_0*b_1`
@@ -15,7 +19,10 @@ fn print_draw(i: usize, j: usize) {
 }
 
 // `a_0` and so on: the n shares of a factor.
-fn factor(of: &[u8], n: usize, first: usize, sheet: &[u8]) -> usize {
+pub fn factor(of: &[u8], n: usize, first: usize, sheet: &[u8]) -> usize
+    requires { ⌜ first + n ≤ most ⌝ }
+    ensures { λ r. ⌜ r ≡ first + n ⌝ }
+{
     let mut k = first;
     for i in 0..n {
         lines::start(k);
@@ -25,20 +32,29 @@ fn factor(of: &[u8], n: usize, first: usize, sheet: &[u8]) -> usize {
     k
 }
 
-fn draw(i: usize, j: usize, k: usize, sheet: &[u8]) -> usize {
+fn draw(i: usize, j: usize, k: usize, sheet: &[u8]) -> usize
+    requires { ⌜ k < most ⌝ }
+    ensures { λ r. ⌜ r ≡ k + 1 ⌝ }
+{
     lines::start(k);
     print_draw(i, j);
     lines::end(k, sheet)
 }
 
-fn cross(i: usize, j: usize, k: usize, sheet: &[u8]) -> usize {
+fn cross(i: usize, j: usize, k: usize, sheet: &[u8]) -> usize
+    requires { ⌜ k < most ⌝ }
+    ensures { λ r. ⌜ r ≡ k + 1 ⌝ }
+{
     lines::start(k);
     print_cross(i, j);
     lines::end(k, sheet)
 }
 
 // `r(0,1)^a_0*b_1`
-fn half(i: usize, j: usize, k: usize, sheet: &[u8]) -> usize {
+fn half(i: usize, j: usize, k: usize, sheet: &[u8]) -> usize
+    requires { ⌜ k < most ⌝ }
+    ensures { λ r. ⌜ r ≡ k + 1 ⌝ }
+{
     lines::start(k);
     print_draw(i, j);
     text::print(b"^");
@@ -47,7 +63,10 @@ fn half(i: usize, j: usize, k: usize, sheet: &[u8]) -> usize {
 }
 
 // The five places of a pair i < j.
-fn pair(i: usize, j: usize, first: usize, sheet: &[u8]) -> usize {
+fn pair(i: usize, j: usize, first: usize, sheet: &[u8]) -> usize
+    requires { ⌜ first + 5 ≤ most ⌝ }
+    ensures { λ r. ⌜ r ≡ first + 5 ⌝ }
+{
     let mut k = draw(i, j, first, sheet);
     k = cross(i, j, k, sheet);
     k = half(i, j, k, sheet);
@@ -57,7 +76,8 @@ fn pair(i: usize, j: usize, first: usize, sheet: &[u8]) -> usize {
 
 // The pairs whose first share is i.
 fn pair_row(n: usize, i: usize, first: usize, sheet: &[u8]) -> usize
-    requires { ⌜ i ≤ 8 ⌝ }
+    requires { ⌜ (i ≤ 8) × (first + 5 * (n - (i + 1)) ≤ most) ⌝ }
+    ensures { λ r. ⌜ r ≡ first + 5 * (n - (i + 1)) ⌝ }
 {
     let mut k = first;
     for j in i + 1..n {
@@ -67,7 +87,8 @@ fn pair_row(n: usize, i: usize, first: usize, sheet: &[u8]) -> usize
 }
 
 fn pairs(n: usize, first: usize, sheet: &[u8]) -> usize
-    requires { ⌜ n ≤ 9 ⌝ }
+    requires { ⌜ (n ≤ 9) × (first + 5 * pair-count n ≤ most) ⌝ }
+    ensures { λ r. ⌜ r ≡ first + 5 * pair-count n ⌝ }
 {
     let mut k = first;
     for i in 0..n {
@@ -100,7 +121,8 @@ fn print_part(d: usize, i: usize, m: usize)
 
 // The running sums of row i.
 fn sums(d: usize, i: usize, first: usize, sheet: &[u8]) -> usize
-    requires { ⌜ d ≤ 8 ⌝ }
+    requires { ⌜ (d ≤ 8) × (first + (d + 1) ≤ most) ⌝ }
+    ensures { λ r. ⌜ r ≡ first + (d + 1) ⌝ }
 {
     let mut k = first;
     for m in 0..d + 1 {
@@ -112,7 +134,8 @@ fn sums(d: usize, i: usize, first: usize, sheet: &[u8]) -> usize
 }
 
 fn rows(d: usize, first: usize, sheet: &[u8]) -> usize
-    requires { ⌜ d ≤ 8 ⌝ }
+    requires { ⌜ (d ≤ 8) × (first + (d + 1) * (d + 1) ≤ most) ⌝ }
+    ensures { λ r. ⌜ r ≡ first + (d + 1) * (d + 1) ⌝ }
 {
     let mut k = first;
     for i in 0..d + 1 {
@@ -122,14 +145,15 @@ fn rows(d: usize, first: usize, sheet: &[u8]) -> usize
 }
 
 // All places of a product of order d, where the first of them has that number.
-pub fn product(d: usize, first: usize, sheet: &[u8])
-    requires { ⌜ d ≤ 8 ⌝ }
+pub fn product(d: usize, first: usize, sheet: &[u8]) -> usize
+    requires { ⌜ (d ≤ 8) × (first + place-count d ≤ most) ⌝ }
+    ensures { λ r. ⌜ r ≡ first + place-count d ⌝ }
 {
     let n = d + 1;
     let mut k = factor(b"a_", n, first, sheet);
     k = factor(b"b_", n, k, sheet);
     k = pairs(n, k, sheet);
-    rows(d, k, sheet);
+    rows(d, k, sheet)
 }
 
 pub fn print(d: usize, sheet: &[u8]) {

@@ -1,14 +1,15 @@
 -- `command_cubes::names::pair_row` meets its contract. Assumes nothing.
-use Prim.Native.Nat.{_<_, _-_}
+use mathlib.Core.Path.{_≡_}
+use Prim.Native.Nat.{_+_, _*_, _<_, _-_}
 use borrow.Author.Needs.{needs}
 use Rattle.command_cubes.proofs.names.pair_row.Statement.{statement}
 use Rattle.command_cubes.proofs.names.pair_row.Tie as tie
 
 abbrev Inv-loop : tie.InvT-loop
-Inv-loop n i first sheet k₀ j₀ k j = i < j
+Inv-loop of n i first sheet k₀ j₀ k j = (i < j) × (k + 3 * (n - j) ≡ first + 3 * (n - (i + 1)))
 
 abbrev μ-loop : tie.MeasureT-loop
-μ-loop n i first sheet k₀ j₀ k j = n - j
+μ-loop of n i first sheet k₀ j₀ k j = n - j
 
 add-j : tie.Need-add-j Inv-loop μ-loop
 add-j c = search needs

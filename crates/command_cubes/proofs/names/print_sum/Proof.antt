@@ -10,8 +10,8 @@ Inv-loop i m t₀ t4 t = t ≤ m
 abbrev μ-loop : tie.MeasureT-loop
 μ-loop i m t₀ t4 t = m - t
 
-print-square-requires : tie.Need-print-square-requires Inv-loop μ-loop
-print-square-requires c κs = search needs
+print-share-requires : tie.Need-print-share-requires Inv-loop μ-loop
+print-share-requires c κs = search needs
 
 loop-holds : tie.Need-loop-holds Inv-loop μ-loop
 loop-holds c = search needs
@@ -46,7 +46,7 @@ print-sum-spec =
     (tie.spec
     Inv-loop
     μ-loop
-    print-square-requires
+    print-share-requires
     loop-holds
     slice-aggregate-print
     print-requires

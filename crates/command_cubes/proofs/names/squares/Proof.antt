@@ -1,11 +1,12 @@
 -- `command_cubes::names::squares` meets its contract. Assumes nothing.
-use Prim.Native.Nat.{_≤_, _-_}
+use mathlib.Core.Path.{_≡_}
+use Prim.Native.Nat.{_+_, _≤_, _-_}
 use borrow.Author.Needs.{needs}
 use Rattle.command_cubes.proofs.names.squares.Statement.{statement}
 use Rattle.command_cubes.proofs.names.squares.Tie as tie
 
 abbrev Inv-loop : tie.InvT-loop
-Inv-loop n first sheet k₀ i₀ k i = i ≤ n
+Inv-loop n first sheet k₀ i₀ k i = (i ≤ n) × (k ≡ first + i)
 
 abbrev μ-loop : tie.MeasureT-loop
 μ-loop n first sheet k₀ i₀ k i = n - i

@@ -1,11 +1,12 @@
 -- `listing::places::factor` meets its contract. Assumes nothing.
-use Prim.Native.Nat.{_≤_, _-_}
+use mathlib.Core.Path.{_≡_}
+use Prim.Native.Nat.{_+_, _≤_, _-_}
 use borrow.Author.Needs.{needs}
 use Rattle.listing.proofs.places.factor.Statement.{statement}
 use Rattle.listing.proofs.places.factor.Tie as tie
 
 abbrev Inv-loop : tie.InvT-loop
-Inv-loop of n first sheet k₀ i₀ k i = i ≤ n
+Inv-loop of n first sheet k₀ i₀ k i = (i ≤ n) × (k ≡ first + i)
 
 abbrev μ-loop : tie.MeasureT-loop
 μ-loop of n first sheet k₀ i₀ k i = n - i

@@ -1,11 +1,12 @@
 -- `listing::places::pair_row` meets its contract. Assumes nothing.
-use Prim.Native.Nat.{_-_}
+use mathlib.Core.Path.{_≡_}
+use Prim.Native.Nat.{_+_, _*_, _-_}
 use borrow.Author.Needs.{needs}
 use Rattle.listing.proofs.places.pair_row.Statement.{statement}
 use Rattle.listing.proofs.places.pair_row.Tie as tie
 
 abbrev Inv-loop : tie.InvT-loop
-Inv-loop n i first sheet k₀ j₀ k j = Unit {0}
+Inv-loop n i first sheet k₀ j₀ k j = k + 5 * (n - j) ≡ first + 5 * (n - (i + 1))
 
 abbrev μ-loop : tie.MeasureT-loop
 μ-loop n i first sheet k₀ j₀ k j = n - j
@@ -14,7 +15,7 @@ add-j : tie.Need-add-j Inv-loop μ-loop
 add-j c = search needs
 
 loop-holds : tie.Need-loop-holds Inv-loop μ-loop
-loop-holds c = tt
+loop-holds c = search needs
 
 pair-requires : tie.Need-pair-requires Inv-loop μ-loop
 pair-requires c κs = search needs
@@ -26,7 +27,7 @@ loop-less : tie.Need-loop-less Inv-loop μ-loop
 loop-less c = search needs
 
 loop-again : tie.Need-loop-again Inv-loop μ-loop
-loop-again c = tt
+loop-again c = search needs
 
 returns : tie.Need-returns Inv-loop μ-loop
 returns c = search needs

@@ -1,11 +1,12 @@
 -- `listing::places::sums` meets its contract. Assumes nothing.
+use mathlib.Core.Path.{_≡_}
 use Prim.Native.Nat.{_+_, _≤_, _-_}
 use borrow.Author.Needs.{needs}
 use Rattle.listing.proofs.places.sums.Statement.{statement}
 use Rattle.listing.proofs.places.sums.Tie as tie
 
 abbrev Inv-loop : tie.InvT-loop
-Inv-loop d i first sheet k₀ m₀ m-end k m = m ≤ d + 1
+Inv-loop d i first sheet k₀ m₀ m-end k m = (m ≤ d + 1) × (k ≡ first + m)
 
 abbrev μ-loop : tie.MeasureT-loop
 μ-loop d i first sheet k₀ m₀ m-end k m = d + 1 - m
