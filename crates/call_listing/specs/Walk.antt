@@ -1,9 +1,7 @@
 -- The counts of `probing`'s definitions by the direction of the cipher, as the walk of a call meets them. Assumes nothing: these are definitions.
-use Prim.Native.Nat.{ℕ, suc, _+_, _*_}
+use Prim.Native.Nat.{ℕ, suc, _*_}
 use Rattle.gf256.specs.declared.Direction.{Direction}
 use Rattle.gf256.specs.declared.Direction.the-variants.{Forward, Inverse}
-use Rattle.lengths.specs.Lengths.{Key-size, four, six, eight}
-use Rattle.probing.specs.BoxPlaces.{box-count}
 use Rattle.probing.specs.RoundPlaces.{round-count, rounds-count, inv-round-count, inv-rounds-count}
 use Rattle.probing.specs.CallPlaces.{encrypted-with-count, decrypted-with-count}
 
@@ -30,12 +28,3 @@ rounds-of Inverse l d = inv-rounds-count l d
 unfoldable pub with-of : Direction → (nk d : ℕ) → ℕ
 with-of Forward nk d = encrypted-with-count nk d
 with-of Inverse nk d = decrypted-with-count nk d
-
--- of a call in closed form: 200, 224 or 276 S-boxes, and so many places for each share besides
-unfoldable pub total-of : Direction → {nk : ℕ} → Key-size nk → (d : ℕ) → ℕ
-total-of Forward four d = 200 * box-count d + 1200 * suc d
-total-of Forward six d = 224 * box-count d + 1424 * suc d
-total-of Forward eight d = 276 * box-count d + 1653 * suc d
-total-of Inverse four d = 200 * box-count d + 1488 * suc d
-total-of Inverse six d = 224 * box-count d + 1776 * suc d
-total-of Inverse eight d = 276 * box-count d + 2069 * suc d

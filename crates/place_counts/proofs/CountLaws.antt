@@ -1,21 +1,16 @@
 -- The code's counts are those of the definitions, and fit. Assumes nothing.
-use mathlib.Core.Path.{_≡_}
+use mathlib.Core.Path.{_≡_, sym}
 use Prim.Native.Nat.{ℕ, _+_, _*_, _≤_}
 use native.Mathlib.Nat.{mul-le-mul}
 use native.Mathlib.Omega.{arith}
-use Rattle.xor.proofs.PairsLaws.{pair-count-is, pair-count-twice}
-use Rattle.isw.specs.Place.{place-count}
-use Rattle.refresh.specs.Places.{refresh-count}
-use Rattle.refresh.proofs.RefreshLaws.{refresh-need-is}
-use Rattle.gadgets.specs.Cube.{cube-count}
-use Rattle.probing.specs.BoxPlaces.{times-count, first-count, second-count, last-count, power-count, box-count}
+use Rattle.probing.specs.BoxPlaces.{box-count}
 use Rattle.probing.specs.StringPlaces.{string-count}
+use Rattle.probing.proofs.PlaceCounts.{box-count-is}
 
 -- ---- an S-box
 
 pub box-count-made : (d : ℕ) → 3 * (d + 1) * (7 * d + 10) ≡ box-count d
-unfolding box-count power-count first-count second-count last-count times-count cube-count refresh-count place-count
-box-count-made d = omega (arith, refresh-need-is d, pair-count-is d, pair-count-twice d)
+box-count-made d = sym (box-count-is d)
 
 pub box-count-fits : (d : ℕ) → d ≤ 8 → 3 * (d + 1) * (7 * d + 10) ≤ 1782
 box-count-fits d h =

@@ -2,7 +2,6 @@
 use mathlib.Core.Path.{_≡_, refl}
 use mathlib.Core.List.{List, [], _∷_, map}
 use Prim.Native.Nat.{ℕ, suc, _+_, _*_}
-use native.Mathlib.Nat.{suc-mul}
 use native.Mathlib.Omega.{arith}
 use Rattle.xor.specs.Lists.{tab, runs}
 use Rattle.xor.specs.Pairs.{each-pair, pairs}
@@ -19,10 +18,10 @@ use Rattle.probing.specs.SchedulePlaces.{temp-count, word-count, schedul
 use Rattle.probing.specs.RoundPlaces.{round-count, last-round-count, rounds-count, inv-round-count, inv-rounds-count}
 use Rattle.probing.specs.CallPlaces.{encrypted-with-count, encryption-count, decrypted-with-count, decryption-count}
 
--- an S-box, either way: 3 (d + 1) (7 d + 10)
-pub box-count-is : (d : ℕ) → box-count d ≡ 21 * (d * suc d) + 30 * suc d
+-- an S-box, either way
+pub box-count-is : (d : ℕ) → box-count d ≡ 3 * (d + 1) * (7 * d + 10)
 unfolding box-count power-count first-count second-count last-count times-count cube-count place-count refresh-count
-box-count-is d = omega (arith, suc-mul d (suc d), refresh-need-is d, product-need-is d, twice-need d)
+box-count-is d = omega (arith, refresh-need-is d, product-need-is d, twice-need d)
 
 -- a whole call: 200, 224 and 276 S-boxes, and the linear steps of each share
 pub record Counted-places (d : ℕ) : Type 0 where
