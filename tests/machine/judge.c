@@ -156,7 +156,7 @@ static bool sums(const struct lane *l, size_t c)
 static bool is_place(const struct lane *l, size_t k)
 {
 	for (size_t r = l->first; r < runs; r++)
-		if ((uint8_t)place[k][r] != l->value[r])
+		if (place[k][r] != l->value[r])
 			return false;
 	return true;
 }
@@ -166,7 +166,7 @@ static bool allowed(const struct lane *l)
 	static size_t near; /* the place that was found last: most often the next one stands near it */
 
 	for (size_t k = 0; k < count; k++)
-		if (!seen[k] && tells(k) && is_place(l, k))
+		if (!seen[k] && names->kind[k] == A_BYTE && is_place(l, k))
 			seen[k] = true;
 	if (memcmp(l->value + l->first, l->value + l->first + 1, runs - l->first - 1) == 0)
 		return true;
@@ -199,14 +199,14 @@ bool judge_allows(const struct lane *l)
 	return judged[at].answer;
 }
 
-size_t judge_seen(size_t *of)
+struct seen judge_seen(void)
 {
-	size_t all = 0;
+	struct seen all = { 0, 0, 0 };
 
-	*of = 0;
 	for (size_t k = 0; k < count; k++) {
-		all += seen[k];
-		*of += tells(k);
+		all.places += names->kind[k] != APART;
+		all.bytes += names->kind[k] == A_BYTE;
+		all.written += seen[k];
 	}
 	return all;
 }

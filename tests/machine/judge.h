@@ -31,8 +31,9 @@ bool judge_ready(const struct notes *n, size_t runs);
 /* Whether the byte is one that may be held. */
 bool judge_allows(const struct lane *l);
 
-/* How many of the noted bytes and sums of logs some byte was equal to, in every run; of a sum, its low byte. */
-size_t judge_seen(size_t *of);
+/* How many places were noted, how many of them are bytes, and to how many of these some byte was equal in every run. */
+struct seen { size_t places, bytes, written; };
+struct seen judge_seen(void);
 
 /* What a byte that is not allowed is: the XOR of two or three places, or a function of two. */
 const char *judge_tells(const struct lane *l);

@@ -91,17 +91,17 @@ static size_t find_bad(const struct lane **shown, size_t most, size_t *all)
 static size_t examine(const struct call *c, size_t order)
 {
 	const struct lane *shown[TOLD];
-	size_t bad, noted;
+	size_t bad;
 
 	if (!run_all(c, order))
 		return 1;
 	size_t told = find_bad(shown, TOLD, &bad);
-	size_t held = judge_seen(&noted);
+	struct seen seen = judge_seen();
 	for (size_t m = 0; m < told; m++)
 		printf("%s, order %zu: %s writes %s: %s\n", c->name, order, symbol_of(step_at[shown[m]->step]), lane_name(shown[m]->where),
 			judge_tells(shown[m]));
-	printf("%s, order %zu: %zu instructions, %zu bytes, %zu places, %zu of %zu notes written; %zu bytes that are no place\n",
-		c->name, order, step_count, lane_count, notes.places, held, noted, bad);
+	printf("%s, order %zu: %zu instructions, %zu bytes; %zu of %zu places, %zu of their %zu bytes written; %zu bytes that are no place\n",
+		c->name, order, step_count, lane_count, seen.places, notes.places, seen.written, seen.bytes, bad);
 	sum.calls++;
 	sum.runs += c->runs;
 	sum.instructions += step_count;
