@@ -136,22 +136,20 @@ void note_mixed(const uint8_t *state)
 
 void note_apart(uint8_t value, const char *name, ...)
 {
-	if (wanted()) {
-		va_list rest;
+	va_list rest;
 
-		va_start(rest, name);
+	va_start(rest, name);
+	if (wanted())
 		put(APART, value, name, rest);
-		va_end(rest);
-	}
+	va_end(rest);
 }
 
 void note_again(uint8_t value, const char *name, ...)
 {
-	if (wanted() && open->from > 0) {
-		va_list rest;
+	va_list rest;
 
-		va_start(rest, name);
+	va_start(rest, name);
+	if (wanted() && open->from > 0)
 		put(APART, value, name, rest);
-		va_end(rest);
-	}
+	va_end(rest);
 }

@@ -20,7 +20,7 @@ enum kind {
 	A_BYTE,
 	A_PAIR,  /* of two factors: the sum of their logs, at which a table is read for their product */
 	A_SHARE, /* of a whole share: nothing, but of the shares that are mixed their columns */
-	APART,   /* a byte that is no place of the list */
+	APART,   /* a byte that is not counted: of tape that no step reads, or a place from before the notebook's first */
 };
 
 struct notes {
@@ -64,11 +64,11 @@ void note_string(const char *where, size_t d, const uint8_t *string, size_t apar
 void note_mixed(const uint8_t *state);
 void note_column(const uint8_t *four);
 
-/* Notes a byte that is no place of the list, and is counted with none. */
+/* Notes a byte that is no place of the list: of tape that no step reads. */
 __attribute__((format(printf, 2, 3)))
 void note_apart(uint8_t value, const char *name, ...);
 
-/* A byte that is read, and was noted when it was computed. If that was before the notebook's first draw, the byte is noted apart. */
+/* A byte that is read, and is noted where it was computed. A notebook that does not begin with the call may not have it, and notes it apart. */
 __attribute__((format(printf, 2, 3)))
 void note_again(uint8_t value, const char *name, ...);
 
