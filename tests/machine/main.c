@@ -14,7 +14,7 @@
  *   machine                what the gate looks at
  *   machine part K N       every N-th call of it, from the K-th on: for N processors
  *   machine CALL [ORDER]   one call
- *   machine WHOLE [ORDER]  a whole call, 'encryption', 'decryption' or 'preparation', at order 1 to 3; without ORDER at order 1
+ *   machine WHOLE [ORDER]  a whole encryption, decryption or preparation, at order 1 or up to 3: some 12 minutes and more
  */
 #include "calls.h"
 #include "judge.h"
