@@ -12,7 +12,7 @@ static struct notes *open;
 void notes_open(struct notes *n)
 {
 	open = n;
-	n->drawn = n->count = n->columns = 0;
+	n->drawn = n->places = n->count = n->columns = 0;
 	n->where = "";
 }
 
@@ -39,7 +39,7 @@ static int wanted(void)
 	return open != NULL && open->from <= open->drawn && open->drawn <= open->to;
 }
 
-static void put(uint16_t value, const char *name, va_list rest)
+static void put(enum kind kind, uint16_t value, const char *name, va_list rest)
 {
 	size_t k = open->count++;
 
@@ -48,6 +48,7 @@ static void put(uint16_t value, const char *name, va_list rest)
 		exit(2);
 	}
 	open->value[k] = value;
+	open->kind[k] = (uint8_t)kind;
 	if (open->name != NULL) {
 		int at = snprintf(open->name[k], sizeof open->name[k], "%s%s", open->where, *open->where ? ": " : "");
 
@@ -55,25 +56,33 @@ static void put(uint16_t value, const char *name, va_list rest)
 	}
 }
 
-uint8_t note(uint8_t value, const char *name, ...)
+/* The next place of the list. It is counted where it is not wanted, too. */
+static void next(enum kind kind, uint16_t value, const char *name, va_list rest)
 {
-	if (wanted()) {
-		va_list rest;
-
-		va_start(rest, name);
-		put(value, name, rest);
-		va_end(rest);
-	}
-	return value;
+	if (open == NULL)
+		return;
+	open->places++;
+	if (wanted())
+		put(kind, value, name, rest);
 }
 
-__attribute__((format(printf, 2, 3)))
-static void note_wide(uint16_t value, const char *name, ...)
+uint8_t note(uint8_t value, const char *name, ...)
 {
 	va_list rest;
 
 	va_start(rest, name);
-	put(value, name, rest);
+	next(A_BYTE, value, name, rest);
+	va_end(rest);
+	return value;
+}
+
+__attribute__((format(printf, 3, 4)))
+static void note_wide(enum kind kind, uint16_t value, const char *name, ...)
+{
+	va_list rest;
+
+	va_start(rest, name);
+	next(kind, value, name, rest);
 	va_end(rest);
 }
 
@@ -92,11 +101,19 @@ static unsigned log_of(uint8_t a)
 	return logs[a];
 }
 
-uint8_t note_product(uint8_t a, size_t i, uint8_t b, size_t j)
+void note_pair(uint8_t a, size_t i, uint8_t b, size_t j)
 {
-	if (wanted())
-		note_wide((uint16_t)(log_of(a) + log_of(b)), "log a_%zu + log b_%zu", i, j);
-	return note(step_times(a, b), "a_%zu*b_%zu", i, j);
+	note_wide(A_PAIR, (uint16_t)(log_of(a) + log_of(b)), "log a_%zu + log b_%zu", i, j);
+}
+
+void note_string(const char *where, size_t d, const uint8_t *string, size_t apart, size_t len)
+{
+	note_where(where);
+	for (size_t s = 0; s <= d; s++)
+		note_wide(A_SHARE, 0, "share %zu", s);
+	for (size_t s = 0; s <= d; s++)
+		for (size_t k = 0; k < len; k++)
+			note(string[s * apart + k], "byte %zu of share %zu", k, s);
 }
 
 void note_column(const uint8_t *four)
@@ -108,4 +125,31 @@ void note_column(const uint8_t *four)
 		exit(2);
 	}
 	memcpy(open->column[open->columns++], four, 4);
+}
+
+void note_mixed(const uint8_t *state)
+{
+	note_wide(A_SHARE, 0, "a share of the state");
+	for (size_t c = 0; c < 4; c++)
+		note_column(state + 4 * c);
+}
+
+void note_apart(uint8_t value, const char *name, ...)
+{
+	va_list rest;
+
+	va_start(rest, name);
+	if (wanted())
+		put(APART, value, name, rest);
+	va_end(rest);
+}
+
+void note_again(uint8_t value, const char *name, ...)
+{
+	va_list rest;
+
+	va_start(rest, name);
+	if (wanted() && open->from > 0)
+		put(APART, value, name, rest);
+	va_end(rest);
 }

@@ -18,10 +18,6 @@ static void sub_word(size_t d, words_t word, struct tape *t)
 static void turned_word(size_t d, words_t word, uint8_t rcon, struct tape *t)
 {
 	sub_word(d, word, t);
-	note_where("SubWord");
-	for (size_t s = 0; s <= d; s++)
-		for (size_t k = 0; k < 4; k++)
-			note(word[s][k], "byte %zu of share %zu", k, s);
 	for (size_t s = 0; s <= d; s++) {
 		uint8_t first = word[s][0];
 
@@ -29,6 +25,19 @@ static void turned_word(size_t d, words_t word, uint8_t rcon, struct tape *t)
 		word[s][3] = first;
 	}
 	word[0][0] ^= rcon;
+	note_string("turned word", d, word[0], 4, 4);
+}
+
+/* Word i: the word so far, XORed with an earlier one. */
+static void add_word(size_t d, schedule_t w, size_t i, size_t earlier, words_t word)
+{
+	for (size_t s = 0; s <= d; s++)
+		for (size_t k = 0; k < 4; k++) {
+			note_again(w[s][earlier][k], "word %zu of share %zu", earlier, s);
+			note_again(word[s][k], "word %zu so far of share %zu", i, s);
+			w[s][i][k] = w[s][earlier][k] ^ word[s][k];
+		}
+	note_string("key word", d, w[0][i], sizeof w[0], 4);
 }
 
 void schedule_expand(size_t d, size_t words, const uint8_t *key, struct tape *t, schedule_t w)
@@ -48,9 +57,6 @@ void schedule_expand(size_t d, size_t words, const uint8_t *key, struct tape *t,
 		} else if (words == 8 && i % 8 == 4) {
 			sub_word(d, word, t);
 		}
-		note_where("key word");
-		for (size_t s = 0; s <= d; s++)
-			for (size_t k = 0; k < 4; k++)
-				w[s][i][k] = note(note(w[s][i - words][k], "%zu of share %zu", i - words, s) ^ note(word[s][k], "%zu so far", i), "%zu of share %zu", i, s);
+		add_word(d, w, i, i - words, word);
 	}
 }

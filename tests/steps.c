@@ -74,6 +74,14 @@ void step_refresh(size_t d, uint8_t *x, struct tape *t)
 	refresh(d, x, t, places);
 }
 
+/* The factors of all field products of a masked product. */
+static void note_pairs(size_t d, const uint8_t *a, const uint8_t *b)
+{
+	for (size_t i = 0; i <= d; i++)
+		for (size_t j = 0; j <= d; j++)
+			note_pair(a[i], i, b[j], j);
+}
+
 void step_product(size_t d, const uint8_t *a, const uint8_t *b, struct tape *t, uint8_t *c, uint8_t *places)
 {
 	uint8_t r[MAX_SHARES][MAX_SHARES];
@@ -86,18 +94,19 @@ void step_product(size_t d, const uint8_t *a, const uint8_t *b, struct tape *t, 
 	for (size_t i = 0; i <= d; i++) {
 		for (size_t j = i + 1; j <= d; j++) {
 			*place++ = r[i][j] = note(draw(t), "r(%zu,%zu)", i, j);
-			uint8_t cross = *place++ = note_product(a[i], i, b[j], j);
+			uint8_t cross = *place++ = note(step_times(a[i], b[j]), "a_%zu*b_%zu", i, j);
 			uint8_t half = *place++ = note(r[i][j] ^ cross, "r(%zu,%zu)^a_%zu*b_%zu", i, j, i, j);
-			uint8_t crossed = *place++ = note_product(a[j], j, b[i], i);
+			uint8_t crossed = *place++ = note(step_times(a[j], b[i]), "a_%zu*b_%zu", j, i);
 			*place++ = r[j][i] = note(half ^ crossed, "r(%zu,%zu)", j, i);
 		}
 	}
 	for (size_t i = 0; i <= d; i++) {
-		*place++ = c[i] = note_product(a[i], i, b[i], i);
+		*place++ = c[i] = note(step_times(a[i], b[i]), "a_%zu*b_%zu", i, i);
 		for (size_t j = 0; j <= d; j++)
 			if (j != i)
 				*place++ = c[i] = note(c[i] ^ r[i][j], "sum %zu after r(%zu,%zu)", i, i, j);
 	}
+	note_pairs(d, a, b);
 }
 
 /* y = a * b, where y may be a or b. */
@@ -109,13 +118,25 @@ static void multiply(size_t d, uint8_t *y, const uint8_t *a, const uint8_t *b, s
 	memcpy(y, c, d + 1);
 }
 
-/* Each share of x squared so many times, into y. */
-static void squares(size_t d, uint8_t *y, const uint8_t *x, int times)
+/* Share i, which is some power of a byte, squared. */
+static uint8_t square(uint8_t a, size_t i, int power)
+{
+	return note(step_times(a, a), "share %zu to the %d", i, 2 * power);
+}
+
+static void note_shares(size_t d, const uint8_t *x)
+{
+	for (size_t i = 0; i <= d; i++)
+		note(x[i], "share %zu", i);
+}
+
+/* Each share of x and its squares up to a power of two, the last into y. */
+static void squares(size_t d, uint8_t *y, const uint8_t *x, int power)
 {
 	for (size_t i = 0; i <= d; i++) {
-		y[i] = x[i];
-		for (int k = 0; k < times; k++)
-			y[i] = note(step_times(y[i], y[i]), "share %zu", i);
+		y[i] = note(x[i], "share %zu", i);
+		for (int p = 1; p < power; p *= 2)
+			y[i] = square(y[i], i, p);
 	}
 }
 
@@ -124,8 +145,8 @@ void step_cube(size_t d, const uint8_t *x, struct tape *t, uint8_t *z, uint8_t *
 	uint8_t *place;
 
 	note_where("z = x^2");
-	squares(d, z, x, 1);
-	memcpy(places, z, d + 1);
+	for (size_t i = 0; i <= d; i++)
+		places[i] = z[i] = square(x[i], i, 1);
 	place = refresh(d, z, t, places + d + 1);
 	note_where("z*x");
 	step_product(d, z, x, t, y, place);
@@ -136,14 +157,16 @@ static void power_254(size_t d, uint8_t *x, struct tape *t)
 {
 	uint8_t y[MAX_SHARES], z[MAX_SHARES], w[MAX_SHARES], places[MAX_CUBE_PLACES];
 
+	note_where("x");
+	note_shares(d, x);
 	step_cube(d, x, t, z, y, places);
 	note_where("w = y^4");
-	squares(d, w, y, 2);
+	squares(d, w, y, 4);
 	step_refresh(d, w, t);
 	note_where("y*w");
 	multiply(d, y, y, w, t);
 	note_where("v^16");
-	squares(d, y, y, 4);
+	squares(d, y, y, 16);
 	note_where("v^16*w");
 	multiply(d, y, y, w, t);
 	note_where("u*z");
@@ -155,24 +178,28 @@ size_t step_sbox_bytes(size_t d)
 	return 3 * d * (d + 1);
 }
 
+/* An affine map of a byte in shares. The n maps take its constant in n times: at odd orders these cancel out, and share 0 takes in one more. */
+static void affine_shares(size_t d, uint8_t *x, uint8_t (*map)(uint8_t), uint8_t constant)
+{
+	for (size_t i = 0; i <= d; i++) {
+		note(x[i], "share %zu", i);
+		note(map(x[i]) ^ constant, "linear part of share %zu", i);
+		x[i] = note(map(x[i]), "map of share %zu", i);
+		x[i] = note(x[i] ^ (d % 2 == 1 && i == 0 ? constant : 0), "share %zu corrected", i);
+	}
+}
+
 void step_sbox(size_t d, uint8_t *x, struct tape *t)
 {
 	power_254(d, x, t);
 	note_where("Af");
-	for (size_t i = 0; i <= d; i++)
-		x[i] = note(step_affine(x[i]), "share %zu", i);
-	if (d % 2 == 1)
-		x[0] = note(x[0] ^ 0x63, "share 0 ^ 63");
+	affine_shares(d, x, step_affine, 0x63);
 }
 
-/* At odd orders the 05s of all shares cancel out, so share 0 takes in one more, before the power. */
 void step_inverse_sbox(size_t d, uint8_t *x, struct tape *t)
 {
 	note_where("inverse Af");
-	for (size_t i = 0; i <= d; i++)
-		x[i] = note(step_inverse_affine(x[i]), "share %zu", i);
-	if (d % 2 == 1)
-		x[0] = note(x[0] ^ 0x05, "share 0 ^ 05");
+	affine_shares(d, x, step_inverse_affine, 0x05);
 	power_254(d, x, t);
 }
 
@@ -180,9 +207,8 @@ void step_box_at(size_t d, step_box *box, uint8_t *string, size_t apart, size_t 
 {
 	uint8_t x[MAX_SHARES];
 
-	note_where("byte of a string");
 	for (size_t s = 0; s <= d; s++)
-		x[s] = note(string[s * apart + k], "%zu of share %zu", k, s);
+		x[s] = string[s * apart + k];
 	box(d, x, t);
 	for (size_t s = 0; s <= d; s++)
 		string[s * apart + k] = x[s];

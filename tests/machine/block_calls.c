@@ -2,6 +2,7 @@
    S-boxes before them and the last of these; and one inverse S-box. */
 #include "calls.h"
 
+#include "counts.h"
 #include "inputs.h"
 #include "stepping.h"
 
@@ -54,14 +55,16 @@ static void set_first_inverse_key(void) { set_from_key(); set_window(KEY_BOXES -
 /* The fourth inverse S-box. */
 static void set_inverse_sbox(void) { set_from_key(); set_window(KEY_BOXES, KEY_BOXES + 4); }
 
-/* The key words that the first S-boxes of a preparation serve. */
-static void set_key_words(void)
+static void set_preparation(size_t next)
 {
 	in.tape_len = DOKKUMEL_PREPARE_TAPE(in.order, KEY);
-	set_window(0, 4);
+	set_window(0, next);
 	in.key_len = DOKKUMEL_SHARED(in.order, KEY);
 	in.out_len = DOKKUMEL_PREPARED(in.order, KEY);
 }
+
+/* The key words that the first S-boxes of a preparation serve. */
+static void set_key_words(void) { set_preparation(4); }
 
 static void set_whole(void)
 {
@@ -69,6 +72,17 @@ static void set_whole(void)
 	set_window(0, AT_RETURN);
 	in.start = AT_CALL;
 }
+
+static void set_whole_preparation(void)
+{
+	set_preparation(AT_RETURN);
+	in.start = AT_CALL;
+}
+
+static size_t places_encrypt(void) { return count_encryption(in.order, KEY); }
+static size_t places_decrypt(void) { return count_decryption(in.order, KEY); }
+static size_t places_prepare(void) { return count_preparation(in.order, KEY); }
+static size_t places_prepared(void) { return count_prepared(in.order, KEY); }
 
 /*
  * Byte 12 of the block, which comes fourth, and the draws of its S-box, such
@@ -133,16 +147,22 @@ static void note_prepare(void)
 	step_prepare(in.order, (KEY / 4), in.key, &t, in.second);
 }
 
+/* In a window, too, all places of the call are counted. */
 const struct call block_calls[] = {
-	{ "inverse-sbox", 8, FEW_RUNS, set_inverse_sbox, draw_inverse_sbox, make_decrypt, note_decrypt },
-	{ "key-words", 3, MANY_RUNS, set_key_words, draw_any, make_prepare, note_prepare },
-	{ "first-inverse-key", 3, MANY_RUNS, set_first_inverse_key, draw_any, make_decrypt, note_decrypt },
-	{ "first-key", 3, MANY_RUNS, set_first_key, draw_any, make_encrypt_prepared, note_encrypt_prepared },
-	{ "round", 3, MANY_RUNS, set_round, draw_any, make_encrypt_prepared, note_encrypt_prepared },
-	{ "last-round", 3, MANY_RUNS, set_last_round, draw_any, make_encrypt_prepared, note_encrypt_prepared },
-	{ "inverse-round", 3, MANY_RUNS, set_inverse_round, draw_any, make_decrypt, note_decrypt },
-	{ "last-inverse-round", 3, MANY_RUNS, set_last_inverse_round, draw_any, make_decrypt, note_decrypt },
+	{ "inverse-sbox", 8, FEW_RUNS, set_inverse_sbox, draw_inverse_sbox, make_decrypt, note_decrypt, places_decrypt },
+	{ "key-words", 3, MANY_RUNS, set_key_words, draw_any, make_prepare, note_prepare, places_prepare },
+	{ "first-inverse-key", 3, MANY_RUNS, set_first_inverse_key, draw_any, make_decrypt, note_decrypt, places_decrypt },
+	{ "first-key", 3, MANY_RUNS, set_first_key, draw_any, make_encrypt_prepared, note_encrypt_prepared, places_prepared },
+	{ "round", 3, MANY_RUNS, set_round, draw_any, make_encrypt_prepared, note_encrypt_prepared, places_prepared },
+	{ "last-round", 3, MANY_RUNS, set_last_round, draw_any, make_encrypt_prepared, note_encrypt_prepared, places_prepared },
+	{ "inverse-round", 3, MANY_RUNS, set_inverse_round, draw_any, make_decrypt, note_decrypt, places_decrypt },
+	{ "last-inverse-round", 3, MANY_RUNS, set_last_inverse_round, draw_any, make_decrypt, note_decrypt, places_decrypt },
 };
 const size_t block_call_count = sizeof block_calls / sizeof block_calls[0];
 
-const struct call whole_call = { "encryption", 1, MANY_RUNS, set_whole, draw_any, make_encrypt, note_encrypt };
+const struct call whole_calls[] = {
+	{ "encryption", 3, MANY_RUNS, set_whole, draw_any, make_encrypt, note_encrypt, places_encrypt },
+	{ "decryption", 3, MANY_RUNS, set_whole, draw_any, make_decrypt, note_decrypt, places_decrypt },
+	{ "preparation", 3, MANY_RUNS, set_whole_preparation, draw_any, make_prepare, note_prepare, places_prepare },
+};
+const size_t whole_call_count = sizeof whole_calls / sizeof whole_calls[0];

@@ -1,6 +1,7 @@
 /* The routines on one byte, and the splitting of a block: whole calls, on bytes of small fields. */
 #include "calls.h"
 
+#include "counts.h"
 #include "inputs.h"
 
 #include <string.h>
@@ -11,7 +12,7 @@ void set_refresh(void) { inputs_whole(in.n, DOKKUMEL_REFRESH_TAPE(in.order), in.
 static void set_product(void) { inputs_whole(in.n, DOKKUMEL_PRODUCT_TAPE(in.order), in.n); }
 static void set_sheet(void) { inputs_whole(in.n, DOKKUMEL_PRODUCT_TAPE(in.order), DOKKUMEL_PLACES(in.order)); }
 static void set_cube(void) { inputs_whole(in.n, DOKKUMEL_CUBE_TAPE(in.order), DOKKUMEL_CUBE_PLACES(in.order)); }
-static void set_sbox(void) { inputs_whole(in.n, DOKKUMEL_SBOX_TAPE(in.order), in.n); }
+void set_sbox(void) { inputs_whole(in.n, DOKKUMEL_SBOX_TAPE(in.order), in.n); }
 
 static void make_refresh(void)
 {
@@ -33,23 +34,18 @@ static void make_cube(void)
 	in.status = dokkumel_cube_sheet(in.order, in.left, in.n, in.tape, in.tape_len, in.out, in.out_len, &in.taken);
 }
 
-static void make_sbox(void)
+void make_sbox(void)
 {
 	in.status = dokkumel_sbox(in.order, in.left, in.n, in.tape, in.tape_len, in.out, in.out_len, &in.taken);
-}
-
-static void note_shares(const uint8_t *x, const char *name)
-{
-	note_where(name);
-	for (size_t i = 0; i < in.n; i++)
-		in.second[i] = note(x[i], "share %zu", i);
 }
 
 void note_refresh(void)
 {
 	struct tape t = { in.tape, 0 };
 
-	note_shares(in.left, "input");
+	note_where("input");
+	for (size_t i = 0; i < in.n; i++)
+		in.second[i] = note(in.left[i], "share %zu", i);
 	note_where("refresh");
 	step_refresh(in.order, in.second, &t);
 	note_dropped(&t);
@@ -78,13 +74,18 @@ void note_cube(void)
 		memcpy(in.second, places, in.out_len);
 }
 
-static void note_sbox(void)
+void note_sbox(void)
 {
 	struct tape t = { in.tape, 0 };
 
-	note_shares(in.left, "input");
+	memcpy(in.second, in.left, in.n);
 	step_sbox(in.order, in.second, &t);
 	note_dropped(&t);
+}
+
+size_t places_sbox(void)
+{
+	return count_box(in.order);
 }
 
 static void set_split(void)
@@ -112,11 +113,11 @@ static void note_split(void)
 }
 
 const struct call byte_calls[] = {
-	{ "split", 8, RUNS, set_split, draw_field, make_split, note_split },
-	{ "refresh", 8, RUNS, set_refresh, draw_field, make_refresh, note_refresh },
-	{ "product", 8, RUNS, set_product, draw_field, make_product, note_product_of },
-	{ "sheet", 8, RUNS, set_sheet, draw_field, make_sheet, note_product_of },
-	{ "cube", 8, RUNS, set_cube, draw_field, make_cube, note_cube },
-	{ "sbox", 8, RUNS, set_sbox, draw_field, make_sbox, note_sbox },
+	{ "split", 8, RUNS, set_split, draw_field, make_split, note_split, NULL },
+	{ "refresh", 8, RUNS, set_refresh, draw_field, make_refresh, note_refresh, NULL },
+	{ "product", 8, RUNS, set_product, draw_field, make_product, note_product_of, NULL },
+	{ "sheet", 8, RUNS, set_sheet, draw_field, make_sheet, note_product_of, NULL },
+	{ "cube", 8, RUNS, set_cube, draw_field, make_cube, note_cube, NULL },
+	{ "sbox", 8, RUNS, set_sbox, draw_field, make_sbox, note_sbox, places_sbox },
 };
 const size_t byte_call_count = sizeof byte_calls / sizeof byte_calls[0];

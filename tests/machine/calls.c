@@ -19,6 +19,11 @@ void call_begin(const struct call *c, size_t order, struct notes *n)
 	steps_watch(in.out, in.out_len);
 }
 
+bool call_counts(const struct call *c, const struct notes *n)
+{
+	return c->places == NULL || c->places() == n->places;
+}
+
 bool call_agrees(void)
 {
 	return in.status == DOKKUMEL_OK && memcmp(in.out, in.second, in.out_len) == 0;

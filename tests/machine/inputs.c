@@ -48,7 +48,7 @@ void note_dropped(const struct tape *t)
 {
 	note_where("dropped");
 	for (size_t k = t->drawn; k < 4 * in.tape_len; k++)
-		note(tape_byte(in.tape, k), "byte %zu of the tape", k);
+		note_apart(tape_byte(in.tape, k), "byte %zu of the tape", k);
 }
 
 void draw_field(size_t run)

@@ -41,7 +41,7 @@ void draw_field(size_t run);
 /* Byte k of the tape, for as many bytes as are set at once: a word's lowest comes first. */
 uint8_t *tape_at(size_t k);
 
-/* Notes what is left of the call's last word: it is read with the word, and then dropped. */
+/* Notes what is left of the call's last word: it is read with the word, and then dropped. No step reads it, so it is noted apart. */
 void note_dropped(const struct tape *t);
 
 /* Key, input and tape of any bytes. */

@@ -94,6 +94,12 @@ static size_t repeats(const uint16_t *p)
 	return again;
 }
 
+/* Whether a note has a value. Of a whole share there is none: its columns are judged. */
+static bool tells(size_t k)
+{
+	return names->kind[k] != A_SHARE;
+}
+
 bool judge_ready(const struct notes *n, size_t all)
 {
 	names = n;
@@ -103,7 +109,7 @@ bool judge_ready(const struct notes *n, size_t all)
 	for (size_t c = 0; c < columns; c++)
 		make_basis(&bases[c], c, 0);
 	for (size_t k = 0; k < count; k++)
-		if (repeats(place[k]) < FEWEST) {
+		if (tells(k) && repeats(place[k]) < FEWEST) {
 			printf("%s: repeats in %zu runs only, so nothing could be told\n", names->name[k], repeats(place[k]));
 			return false;
 		}
@@ -160,14 +166,14 @@ static bool allowed(const struct lane *l)
 	static size_t near; /* the place that was found last: most often the next one stands near it */
 
 	for (size_t k = 0; k < count; k++)
-		if (!seen[k] && is_place(l, k))
+		if (!seen[k] && names->kind[k] == A_BYTE && is_place(l, k))
 			seen[k] = true;
 	if (memcmp(l->value + l->first, l->value + l->first + 1, runs - l->first - 1) == 0)
 		return true;
 	for (size_t m = 0; m < count; m++) {
 		size_t k = (near + (m % 2 ? count - (m + 1) / 2 : m / 2)) % count;
 
-		if (follows(l->value, l->first, place[k])) {
+		if (tells(k) && follows(l->value, l->first, place[k])) {
 			near = k;
 			return true;
 		}
@@ -193,13 +199,15 @@ bool judge_allows(const struct lane *l)
 	return judged[at].answer;
 }
 
-size_t judge_seen(size_t *of)
+struct seen judge_seen(void)
 {
-	size_t all = 0;
+	struct seen all = { 0, 0, 0 };
 
-	for (size_t k = 0; k < count; k++)
-		all += seen[k];
-	*of = count;
+	for (size_t k = 0; k < count; k++) {
+		all.places += names->kind[k] != APART;
+		all.bytes += names->kind[k] == A_BYTE;
+		all.written += seen[k];
+	}
 	return all;
 }
 

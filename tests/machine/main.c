@@ -5,7 +5,8 @@
  * This runs the built routines instruction by instruction on many shares and
  * tapes, looks at each byte that each instruction writes, and asks over all
  * runs what it is (judge.h). Anything that it may not be is told, with the
- * instruction, and ends the program with status 1.
+ * instruction, and ends the program with status 1. So does a notebook that has
+ * not as many places as the theorem counts.
  *
  * Routines that hold what they must not stand in the test too, and must be
  * found each time: so it cannot pass blindly.
@@ -13,7 +14,7 @@
  *   machine                what the gate looks at
  *   machine part K N       every N-th call of it, from the K-th on: for N processors
  *   machine CALL [ORDER]   one call
- *   machine encryption     a whole encryption at order 1: some minutes
+ *   machine WHOLE [ORDER]  a whole encryption, decryption or preparation, at order 1 or up to 3: some 12 minutes and more
  */
 #include "calls.h"
 #include "judge.h"
@@ -45,6 +46,10 @@ static bool run_all(const struct call *c, size_t order)
 		notes_open(&notes);
 		c->note();
 		notes_close();
+		if (!call_counts(c, &notes)) {
+			printf("%s, order %zu: %zu places noted, and the theorem counts %zu\n", c->name, order, notes.places, c->places());
+			return false;
+		}
 		judge_take(&notes, run);
 		if (!steps_run(c->make)) {
 			printf("%s, order %zu: its instructions depend on the data\n", c->name, order);
@@ -86,17 +91,17 @@ static size_t find_bad(const struct lane **shown, size_t most, size_t *all)
 static size_t examine(const struct call *c, size_t order)
 {
 	const struct lane *shown[TOLD];
-	size_t bad, places;
+	size_t bad;
 
 	if (!run_all(c, order))
 		return 1;
 	size_t told = find_bad(shown, TOLD, &bad);
-	size_t held = judge_seen(&places);
+	struct seen seen = judge_seen();
 	for (size_t m = 0; m < told; m++)
 		printf("%s, order %zu: %s writes %s: %s\n", c->name, order, symbol_of(step_at[shown[m]->step]), lane_name(shown[m]->where),
 			judge_tells(shown[m]));
-	printf("%s, order %zu: %zu instructions, %zu bytes, %zu of %zu places written; %zu bytes that are no place\n",
-		c->name, order, step_count, lane_count, held, places, bad);
+	printf("%s, order %zu: %zu instructions, %zu bytes; %zu of %zu places, %zu of their %zu bytes written; %zu bytes that are no place\n",
+		c->name, order, step_count, lane_count, seen.places, notes.places, seen.written, seen.bytes, bad);
 	sum.calls++;
 	sum.runs += c->runs;
 	sum.instructions += step_count;
@@ -151,8 +156,10 @@ int main(int argc, char **argv)
 	if (wanted.parts == 0 || !sees())
 		return 1;
 	size_t bad = examine_all(byte_calls, byte_call_count) + examine_all(block_calls, block_call_count);
-	if (wanted.name != NULL)
-		bad += examine_all(&whole_call, 1);
+	if (wanted.name != NULL) {
+		wanted.order += wanted.order == 0;
+		bad += examine_all(whole_calls, whole_call_count);
+	}
 	if (sum.calls == 0) {
 		fputs("machine: no such call\n", stderr);
 		return 2;

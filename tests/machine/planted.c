@@ -92,6 +92,24 @@ static void make_unrefreshed(void)
 	in.out[1] = times[1][1] ^ back;
 }
 
+/* An S-box beside which the squares of both shares of its input meet, as they stand before their refresh. */
+static uint8_t squares[2];
+
+static void draw_met_squares(size_t run)
+{
+	draw_field(run);
+	for (int i = 0; i < 2; i++)
+		squares[i] = step_times(in.left[i], in.left[i]);
+}
+
+static void make_met_squares(void)
+{
+	volatile uint8_t both = squares[0];
+
+	both ^= squares[1];
+	make_sbox();
+}
+
 /* Doubles a column in each of two shares, and holds a byte of both shares on the way. */
 static void set_column(void) { inputs_whole(2 * 4, 0, 2 * 4); }
 
@@ -148,10 +166,11 @@ static void note_behind(void)
 }
 
 const struct call planted[] = {
-	{ "planted: brackets moved", 1, RUNS, set_moved, draw_moved, make_moved, note_moved },
-	{ "planted: two draws met", 2, RUNS, set_refresh, draw_field, make_met, note_refresh },
-	{ "planted: square not refreshed", 1, RUNS, set_unrefreshed, draw_unrefreshed, make_unrefreshed, note_cube },
-	{ "planted: two shares in a byte", 1, RUNS, set_column, draw_field, make_two_shares, note_two_shares },
-	{ "planted: behind four S-boxes", 1, RUNS, set_behind, draw_field, make_behind, note_behind },
+	{ "planted: brackets moved", 1, RUNS, set_moved, draw_moved, make_moved, note_moved, NULL },
+	{ "planted: two draws met", 2, RUNS, set_refresh, draw_field, make_met, note_refresh, NULL },
+	{ "planted: square not refreshed", 1, RUNS, set_unrefreshed, draw_unrefreshed, make_unrefreshed, note_cube, NULL },
+	{ "planted: two squares met", 1, RUNS, set_sbox, draw_met_squares, make_met_squares, note_sbox, places_sbox },
+	{ "planted: two shares in a byte", 1, RUNS, set_column, draw_field, make_two_shares, note_two_shares, NULL },
+	{ "planted: behind four S-boxes", 1, RUNS, set_behind, draw_field, make_behind, note_behind, NULL },
 };
 const size_t planted_count = sizeof planted / sizeof planted[0];

@@ -18,7 +18,7 @@
 #include <stdint.h>
 
 #define MAX_RUNS  200
-#define MAX_STEPS 400000
+#define MAX_STEPS 600000
 #define MAX_LANES 1500000
 
 /* A byte that step `step` writes, and what stands there after it in each run from `first` on. */
