@@ -2,15 +2,16 @@
  * Dokkumel: AES on masked data.
  *
  * SHARES. A secret byte is held as n = d + 1 shares, numbered 0 to d, whose
- * XOR is the byte. d is the order: any d of the bytes that a masked product
- * computes say nothing about its factors. Orders 1 to 8 are served. That is
- * proved of one product, and of one cube, the S-box's first product with the
- * squares and the refresh before it: any d of its bytes say nothing about the
- * byte that is cubed. Of several products together nothing is claimed. The
- * refresh, by itself and inside the S-box, draws a byte for each pair of
- * shares (since version 70; before, it was the source's short one, with which
- * the S-box is known not to hide at higher orders what each product hides:
- * Coron, Prouff, Rivain and Roche, FSE 2013).
+ * XOR is the byte. d is the order: any d of the values that the defined steps
+ * compute say nothing about what is masked. Orders 1 to 8 are served. That is
+ * proved of a product, of an S-box, of a whole encryption or decryption with
+ * its key expansion, and of a key that is prepared once with all blocks that
+ * are encrypted from it: d values in all of these together, not in each call.
+ * It is not claimed of splitting and joining, nor where all shares of an output
+ * are seen besides. The refresh, by itself and inside the S-box, draws a byte
+ * for each pair of shares (since version 70; before, it was the source's short
+ * one, with which the S-box is known not to hide at higher orders what each
+ * product hides: Coron, Prouff, Rivain and Roche, FSE 2013).
  *
  * LAYOUT. A string of L bytes in shares is one buffer of n * L bytes: all of
  * share 0, then all of share 1, and so on. A single byte in shares is the
