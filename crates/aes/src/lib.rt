@@ -3,6 +3,8 @@
 //
 // The routines of the documents stand at the root, and ask nothing of a caller. What stands in the modules besides serves the crates above;
 // where it has a `requires`, its callers prove it.
+#![tactic(auto)]
+
 pub mod preparation;
 pub mod single;
 

@@ -8,7 +8,7 @@ ghost use Rattle.call_listing.specs.Walk.{most};
 use crate::lines;
 
 // Where the walk stands: the number of the next S-box, and that of the next place.
-#[derive(Drop)]
+#[derive(Clone, Copy)]
 pub struct Spot {
     pub number: usize,
     pub at: usize,

@@ -20,7 +20,7 @@ fn print_reading(w: Direction) {
 MixColumns: of each share, it as one value, then of each byte 02*a, 03*b, their sum, that with c, that with d; a to d: its column from its row on\n",
         ),
         Direction::Inverse => text::print(
-            b"S-boxes: of key words as places box lists them, of rounds as places inverse_box does
+            b"S-boxes: of key words as places box lists them, of rounds as places inverse-box does
 InvMixColumns: of each share, it as one value, then of each byte 0e*a, 0b*b, their sum, 0d*c, that sum with it, 09*d, that sum with it;
 a to d: its column from its row on
 round 1 is the first to run, and state bytes are those after InvShiftRows\n",

@@ -8,7 +8,7 @@ ghost use Rattle.gadgets.specs.Cube.{cube_count};
 use listing::lines;
 
 // What is refreshed: the squares of the cube, or `q_0` and so on, which a listing of the S-box names.
-#[derive(Drop)]
+#[derive(Clone, Copy)]
 pub enum Of {
     Squares,
     Fourths,

@@ -8,7 +8,7 @@ use text::decimal::Number;
 use text::{decimal, hexadecimal};
 
 // How many entries stand at the front of a buffer, where they could be read.
-#[derive(Drop)]
+#[derive(Clone, Copy)]
 pub struct Got {
     pub good: bool,
     pub count: usize,

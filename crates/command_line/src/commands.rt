@@ -1,7 +1,7 @@
 // The commands, by name and by how many arguments they take.
 use crate::faults;
 
-#[derive(Drop)]
+#[derive(Clone, Copy)]
 pub enum Command {
     Encrypt,
     Decrypt,

@@ -16,10 +16,10 @@ dokkumel sheet ORDER LEFT RIGHT TAPE                        every byte of a prod
 dokkumel read ORDER LEFT RIGHT TAPE PLACE...                the bytes at listed places of a product
 dokkumel places ORDER                                       the places of a product: number, name
 dokkumel places box ORDER                                   the places of an S-box: number, name
-dokkumel places inverse_box ORDER                           the places of an inverse S-box: number, name
+dokkumel places inverse-box ORDER                           the places of an inverse S-box: number, name
 dokkumel places encryption ORDER KEYBYTES                   the places of an encryption, key expansion included: the numbers of each step
 dokkumel places decryption ORDER KEYBYTES                   the places of a decryption, key expansion included: the numbers of each step
-dokkumel cube_sheet ORDER SHARES TAPE                       every byte of the cube x*x^2: number, name, byte
+dokkumel cube-sheet ORDER SHARES TAPE                       every byte of the cube x*x^2: number, name, byte
 dokkumel read-cube ORDER SHARES TAPE PLACE...               the bytes at listed places of the cube
 dokkumel cube-places ORDER                                  the places of the cube: number, name
 dokkumel tape ORDER KEYBYTES                                which tape bytes and words go into which step of an encryption or a decryption

@@ -27,7 +27,7 @@ pub fn count(first: usize) -> Got
 }
 
 // A place number, where the argument is one.
-#[derive(Drop)]
+#[derive(Clone, Copy)]
 struct Entry {
     good: bool,
     place: u16,

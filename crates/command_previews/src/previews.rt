@@ -10,7 +10,7 @@ use outcomes::Answer;
 use text::answers;
 
 // The calls that can be asked about.
-#[derive(Drop)]
+#[derive(Clone, Copy)]
 pub enum Route {
     Encrypt,
     Decrypt,

@@ -1,4 +1,6 @@
 // The argument TAPE of the command line.
+#![tactic(auto)]
+
 pub mod argument;
 
 pub use argument::{buffer, read};

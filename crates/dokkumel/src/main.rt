@@ -4,6 +4,8 @@
 //
 // A refused call prints `refused N: CAUSE` on standard output. A command line that cannot be read gets one line on standard error. The exit
 // status is 0 in every case, since a program in Rattle has no other.
+#![tactic(auto)]
+
 mod calls;
 
 use command_line::commands::Command;

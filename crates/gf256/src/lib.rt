@@ -3,6 +3,8 @@
 //
 // What stands at the root asks nothing of a caller. The products and powers by logs ask for the two tables and stand in modules of their own: their
 // callers, the cores of the crates above, are lent the tables.
+#![tactic(auto)]
+
 pub mod powers;
 mod product;
 pub mod table_product;
@@ -12,14 +14,14 @@ pub use product::{double, times};
 pub use tables::{Antilogs, Logs, antilogs, logs};
 
 // Which way AES runs: by the cipher of FIPS 197, or by its inverse cipher.
-#[derive(Drop)]
+#[derive(Clone, Copy)]
 pub enum Direction {
     Forward,
     Inverse,
 }
 
 // The powers of a byte that the S-box needs share by share.
-#[derive(Drop)]
+#[derive(Clone, Copy)]
 pub enum Exponent {
     Two,
     Four,

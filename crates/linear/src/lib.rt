@@ -2,10 +2,12 @@
 // over shares", and document 02, wish 2, decide; the crate cipher has the definitions.
 //
 // Nothing here is for the module's own use: each function has a `requires`, which its callers prove.
+#![tactic(auto)]
+
 pub mod steps;
 
 // The linear steps of FIPS 197 that act on a state alone; a direction says whether the step is meant or its inverse.
-#[derive(Drop)]
+#[derive(Clone, Copy)]
 pub enum Step {
     ShiftRows,
     MixColumns,

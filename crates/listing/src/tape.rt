@@ -5,7 +5,7 @@ ghost use Rattle.std.specs.Prelude.{◌≤◌};
 ghost use Rattle.lengths.specs.Lengths.{KeySize};
 
 // Where the walk stands: the number of the next S-box, and its first byte on the tape.
-#[derive(Drop)]
+#[derive(Clone, Copy)]
 struct Spot {
     number: usize,
     at: usize,

@@ -2,5 +2,7 @@
 // Document 01, "The steps over shares", and document 02, wish 7, decide.
 //
 // Nothing here is for the module's own use: each function has a `requires`, which its callers prove.
+#![tactic(auto)]
+
 pub mod counting;
 pub mod rows;

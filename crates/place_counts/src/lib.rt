@@ -1,4 +1,6 @@
 // How many places the parts of a masked call have. The definitions that decide are `probing`'s, and the contracts name them.
+#![tactic(auto)]
+
 ghost use Rattle.std.specs.Prelude.{◌≡◌, ◌≤◌};
 ghost use Rattle.probing.specs.BoxPlaces as BoxPlaces;
 ghost use Rattle.probing.specs.StringPlaces as StringPlaces;

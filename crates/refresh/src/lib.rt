@@ -2,6 +2,8 @@
 //
 // The routine stands at the root, and asks nothing of a caller. What stands in the module besides serves the crates above; where it has a `requires`,
 // its callers prove it.
+#![tactic(auto)]
+
 pub mod refreshing;
 
 pub use refreshing::refresh;

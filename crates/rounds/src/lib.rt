@@ -2,5 +2,7 @@
 // document 02, wish 2; the crate cipher has the standard and the definitions of the steps over shares.
 //
 // Nothing here is for the module's own use: each function has a `requires`, which its callers prove.
+#![tactic(auto)]
+
 pub mod round;
 pub mod rounds;

@@ -3,6 +3,8 @@
 //
 // The routine of document 01 stands at the root, and asks nothing of a caller. What stands in the modules besides serves the crates above;
 // where it has a `requires`, its callers prove it.
+#![tactic(auto)]
+
 pub mod boxes;
 
 pub use boxes::masked_box;

@@ -3,6 +3,8 @@
 //
 // The routines of document 01 stand at the root, and ask nothing of a caller. What stands in the modules besides serves the crates above;
 // where it has a `requires`, its callers prove it.
+#![tactic(auto)]
+
 pub mod answers;
 pub mod bytes;
 pub mod joining;

@@ -2,5 +2,7 @@
 // document 02, wish 2, decide; the crate cipher has the definitions.
 //
 // Nothing here is for the module's own use: each function has a `requires`, which its callers prove.
+#![tactic(auto)]
+
 pub mod boxes;
 pub mod bytes;

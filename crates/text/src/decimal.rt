@@ -3,7 +3,7 @@ ghost use Rattle.std.specs.Prelude.{◌≡◌, cond, false, ltb, length};
 ghost use Rattle.text.specs.Decimal as Decimal;
 
 // A number, where the text is one.
-#[derive(Drop)]
+#[derive(Clone, Copy)]
 pub struct Number {
     pub good: bool,
     pub value: usize,

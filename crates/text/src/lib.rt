@@ -1,5 +1,7 @@
 // Text for the programs: words, numbers and bytes in hexadecimal, read and printed, and answers in document 01's words; and bytes packed into the
 // words of a tape.
+#![tactic(auto)]
+
 pub mod answers;
 pub mod decimal;
 pub mod hexadecimal;

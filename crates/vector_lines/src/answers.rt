@@ -3,7 +3,7 @@ use crate::lines;
 use outcomes::Answer;
 
 // What came of one call or of several: how many tape words were taken, or document 01's number of the refusal. Refusal 0 is none of the document's.
-#[derive(Drop)]
+#[derive(Clone, Copy)]
 pub struct Came {
     pub served: bool,
     pub number: usize,

@@ -1,7 +1,7 @@
 // Counting comparisons. The sums never come near 2^64; in their wrapping form they ask no proof of that.
 
 // How many values were compared, and how many of them differed; how many lines were equal and are not shown; and how many could not be read.
-#[derive(Drop)]
+#[derive(Clone, Copy)]
 pub struct Tally {
     pub compared: u64,
     pub different: u64,

@@ -8,7 +8,7 @@
 // A KIND, a NAME that is a route, and taken or refused are told by their first letter. A line whose NAME is `-` is shown only if it differs.
 use crate::lines;
 
-#[derive(Drop)]
+#[derive(Clone, Copy)]
 pub enum Kind {
     Encrypt,
     Prepared,

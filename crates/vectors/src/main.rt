@@ -1,6 +1,8 @@
 // Runs the masked AES on values known from elsewhere and compares: document 01's small values that no theorem covers, the published examples of
 // FIPS 197, and what an unrelated AES made; and the field's two products on all bytes. Each line of standard input, which make-stdin makes, is one
 // run and what is wanted of it (forms.rt of vector_lines). A line of output is that line with what came in the place of what is wanted.
+#![tactic(auto)]
+
 mod comparisons;
 mod products;
 
