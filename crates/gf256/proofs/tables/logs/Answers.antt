@@ -3,12 +3,8 @@ use Rattle.xor.specs.Digit.{if_set}
 use Rattle.xor.specs.Lists.{at}
 use Rattle.gf256.specs.Field.{doubled, times_from, times}
 use Rattle.gf256.proofs.TablesLaws.{step_right, one_right, logs_right, logs_tested}
-use Rattle.gf256.proofs.tables.logs.Statement.{statement}
-use Rattle.gf256.proofs.tables.logs.Tie as tie
+use Rattle.gf256.proofs.tables.logs.Goals as goal
 
-returns : tie.Need-returns
+pub returns : goal.returns
 unfolding logs_right one_right step_right at times times_from doubled if_set
 returns c = logs_tested _ tt
-
-pub logs-spec : {M : Type 1} → statement M
-logs-spec = tie.close (tie.spec returns)

@@ -2,12 +2,8 @@
 use Rattle.xor.specs.Digit.{if_set}
 use Rattle.gf256.specs.Field.{doubled, times_from, times}
 use Rattle.gf256.proofs.TablesLaws.{zeros, chain, antilogs_tested}
-use Rattle.gf256.proofs.tables.antilogs.Statement.{statement}
-use Rattle.gf256.proofs.tables.antilogs.Tie as tie
+use Rattle.gf256.proofs.tables.antilogs.Goals as goal
 
-returns : tie.Need-returns
+pub returns : goal.returns
 unfolding chain zeros times times_from doubled if_set
 returns c = antilogs_tested _ tt
-
-pub antilogs-spec : {M : Type 1} → statement M
-antilogs-spec = tie.close (tie.spec returns)
