@@ -1,7 +1,9 @@
 // The command `cube-places`: the places of the cube by number and name.
 
-pub fn run() {
-    let order = command_lists::places::served_order(2);
+use std::env::Env;
+
+pub fn run<R: Env>(rt: &R) {
+    let order = command_lists::places::served_order(rt, 2);
     if order.good {
         crate::names::print(order.value, &[]);
     }

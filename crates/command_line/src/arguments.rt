@@ -4,6 +4,7 @@ ghost use Rattle.text.specs.Hexadecimal as Hexadecimal;
 ghost use Rattle.command_line.specs.Filled.{Whole, Filled};
 
 use crate::faults;
+use std::env::{Env, FillError};
 use text::decimal::Number;
 use text::{decimal, hexadecimal};
 
@@ -30,10 +31,31 @@ pub fn wide_buffer() -> [u8; 131072]
     [0; 131072]
 }
 
+// Argument i at the front of text. One that is missing, or longer than text, is read as empty.
+pub fn word<R: Env>(rt: &R, i: usize, text: &mut [u8]) -> usize
+    ensures { result ≤ length text.new }
+{
+    match rt.arg(i, text) {
+        Ok(n) => n,
+        Err(_) => 0,
+    }
+}
+
+// How many arguments there are, the program's name among them.
+pub fn count<R: Env>(rt: &R) -> usize {
+    let mut text = [0u8; 1];
+    for i in 0..usize::MAX {
+        if let Err(FillError::NotPresent) = rt.arg(i, &mut text) {
+            return i;
+        }
+    }
+    usize::MAX
+}
+
 // Argument i as a number.
-pub fn number(i: usize, name: &[u8]) -> Number {
+pub fn number<R: Env>(rt: &R, i: usize, name: &[u8]) -> Number {
     let mut text = io::buffer();
-    let n = os::arg(i, &mut text);
+    let n = word(rt, i, &mut text);
     let read = decimal::read(&text[..n]);
     if !read.good {
         faults::print(name, b" is no decimal number of at most 4096 digits");
@@ -42,14 +64,13 @@ pub fn number(i: usize, name: &[u8]) -> Number {
 }
 
 // Argument i as hexadecimal digits, at the front of text.
-pub fn digits(i: usize, name: &[u8], text: &mut [u8]) -> Got
+pub fn digits<R: Env>(rt: &R, i: usize, name: &[u8], text: &mut [u8]) -> Got
     ensures { result.count ≤ length text.new }
 {
-    let n = os::arg(i, text);
-    if os::errno() != 0 {
+    let Ok(n) = rt.arg(i, text) else {
         faults::print_long(name, text.len(), 1);
         return nothing();
-    }
+    };
     if !hexadecimal::are_digits(&text[0..n]) {
         faults::print(name, b" has a character that is no hexadecimal digit");
         return nothing();
@@ -93,11 +114,11 @@ fn decoded(text: &[u8], name: &[u8], out: &mut [u8]) -> Got
 }
 
 // Argument i as bytes, at the front of out.
-pub fn bytes(i: usize, name: &[u8], out: &mut [u8]) -> Got
+pub fn bytes<R: Env>(rt: &R, i: usize, name: &[u8], out: &mut [u8]) -> Got
     ensures { result.count ≤ length out.new }
 {
     let mut text = wide_buffer();
-    let got = digits(i, name, &mut text);
+    let got = digits(rt, i, name, &mut text);
     if !got.good {
         return nothing();
     }

@@ -1,6 +1,7 @@
 // The command `tape`: which bytes and words of the tape go into which step of an encryption or decryption.
 use command_line::arguments;
 use outcomes::Refusal;
+use std::env::Env;
 use text::answers;
 
 fn run_on(order: usize, size: usize) {
@@ -15,12 +16,12 @@ fn run_on(order: usize, size: usize) {
     }
 }
 
-pub fn run() {
-    let order = arguments::number(2, b"ORDER");
+pub fn run<R: Env>(rt: &R) {
+    let order = arguments::number(rt, 2, b"ORDER");
     if !order.good {
         return;
     }
-    let size = arguments::number(3, b"KEYBYTES");
+    let size = arguments::number(rt, 3, b"KEYBYTES");
     if size.good {
         run_on(order.value, size.value);
     }

@@ -3,6 +3,7 @@ ghost use Rattle.std.specs.Prelude.{◌≡◌, ◌≤◌, length};
 
 use command_line::arguments::Got;
 use command_line::{arguments, faults};
+use std::env::Env;
 
 // Room for more places than the library serves at any order.
 pub fn buffer() -> [u16; 256]
@@ -12,10 +13,10 @@ pub fn buffer() -> [u16; 256]
 }
 
 // How many places are named from argument `first` on. If there is no room for them, a line says so.
-pub fn count(first: usize) -> Got
+pub fn count<R: Env>(rt: &R, first: usize) -> Got
     ensures { result.count ≤ 256 }
 {
-    let n = std::num::wrapping_sub_usize(os::arg_count(), first);
+    let n = std::num::wrapping_sub_usize(arguments::count(rt), first);
     if 256 < n {
         faults::print(b"", b"more than 256 places");
         return arguments::nothing();
@@ -33,8 +34,8 @@ struct Entry {
     place: u16,
 }
 
-fn listed(i: usize) -> Entry {
-    let read = arguments::number(i, b"PLACE");
+fn listed<R: Env>(rt: &R, i: usize) -> Entry {
+    let read = arguments::number(rt, i, b"PLACE");
     if read.value <= 65535 {
         return Entry {
             good: read.good,
@@ -51,11 +52,11 @@ fn listed(i: usize) -> Entry {
 }
 
 // The places that the arguments from `first` on name. Answers whether all could be read; none is read behind one that could not.
-pub fn fill(first: usize, list: &mut [u16]) -> bool {
+pub fn fill<R: Env>(rt: &R, first: usize, list: &mut [u16]) -> bool {
     let mut good = true;
     let mut k: usize = 0;
     while k < list.len() && good {
-        let e = listed(std::num::wrapping_add_usize(k, first));
+        let e = listed(rt, std::num::wrapping_add_usize(k, first));
         list[k] = e.place;
         good = e.good;
         k += 1;

@@ -5,11 +5,12 @@ ghost use Rattle.lengths.specs.Lengths.{KeySize};
 use command_line::{arguments, commands};
 use gf256::Direction;
 use outcomes::Refusal;
+use std::env::Env;
 use text::answers;
 
-fn of_product() {
-    if commands::has_words(os::arg_count(), 3) {
-        command_lists::places::run();
+fn of_product<R: Env>(rt: &R) {
+    if commands::has_words(arguments::count(rt), 3) {
+        command_lists::places::run(rt);
     }
 }
 
@@ -19,11 +20,11 @@ fn list_box(w: Direction, order: usize) {
     }
 }
 
-fn of_box(w: Direction) {
-    if !commands::has_words(os::arg_count(), 4) {
+fn of_box<R: Env>(rt: &R, w: Direction) {
+    if !commands::has_words(arguments::count(rt), 4) {
         return;
     }
-    let order = command_lists::places::served_order(3);
+    let order = command_lists::places::served_order(rt, 3);
     if order.good {
         list_box(w, order.value);
     }
@@ -48,39 +49,39 @@ fn run_on(w: Direction, order: usize, size: usize) {
     }
 }
 
-fn of_call(w: Direction) {
-    if !commands::has_words(os::arg_count(), 5) {
+fn of_call<R: Env>(rt: &R, w: Direction) {
+    if !commands::has_words(arguments::count(rt), 5) {
         return;
     }
-    let order = arguments::number(3, b"ORDER");
+    let order = arguments::number(rt, 3, b"ORDER");
     if !order.good {
         return;
     }
-    let size = arguments::number(4, b"KEYBYTES");
+    let size = arguments::number(rt, 4, b"KEYBYTES");
     if size.good {
         run_on(w, order.value, size.value);
     }
 }
 
-fn named(word: &[u8]) {
+fn named<R: Env>(rt: &R, word: &[u8]) {
     if text::same(word, b"box") {
-        return of_box(Direction::Forward);
+        return of_box(rt, Direction::Forward);
     }
     if text::same(word, b"inverse-box") {
-        return of_box(Direction::Inverse);
+        return of_box(rt, Direction::Inverse);
     }
     if text::same(word, b"encryption") {
-        return of_call(Direction::Forward);
+        return of_call(rt, Direction::Forward);
     }
     if text::same(word, b"decryption") {
-        return of_call(Direction::Inverse);
+        return of_call(rt, Direction::Inverse);
     }
-    of_product()
+    of_product(rt)
 }
 
 // A first argument that the buffer does not hold is read as empty, and names none of the forms.
-pub fn run() {
+pub fn run<R: Env>(rt: &R) {
     let mut word = io::buffer();
-    let n = os::arg(2, &mut word);
-    named(&word[..n]);
+    let n = arguments::word(rt, 2, &mut word);
+    named(rt, &word[..n]);
 }

@@ -7,6 +7,7 @@ ghost use Rattle.command_previews.specs.Previewed.{previewed};
 use command_line::commands::Command;
 use command_line::{arguments, commands, faults};
 use outcomes::Answer;
+use std::env::Env;
 use text::answers;
 
 // The calls that can be asked about.
@@ -39,12 +40,12 @@ fn foretold(
 }
 
 // TAPELEN is argument i, OUTPUTLEN the one behind it.
-fn with_input(route: Route, order: usize, key: usize, input: usize, i: usize) {
-    let tape = arguments::number(i, b"TAPELEN");
+fn with_input<R: Env>(rt: &R, route: Route, order: usize, key: usize, input: usize, i: usize) {
+    let tape = arguments::number(rt, i, b"TAPELEN");
     if !tape.good {
         return;
     }
-    let output = arguments::number(std::num::wrapping_add_usize(i, 1), b"OUTPUTLEN");
+    let output = arguments::number(rt, std::num::wrapping_add_usize(i, 1), b"OUTPUTLEN");
     if !output.good {
         return;
     }
@@ -56,48 +57,48 @@ fn with_input(route: Route, order: usize, key: usize, input: usize, i: usize) {
 }
 
 // What follows the key's length. A preparation has no input.
-fn with_key(route: Route, order: usize, key: usize) {
+fn with_key<R: Env>(rt: &R, route: Route, order: usize, key: usize) {
     match route {
-        Route::Prepare => with_input(route, order, key, 0, 5),
+        Route::Prepare => with_input(rt, route, order, key, 0, 5),
         _ => {
-            let input = arguments::number(5, b"INPUTLEN");
+            let input = arguments::number(rt, 5, b"INPUTLEN");
             if input.good {
-                with_input(route, order, key, input.value, 6);
+                with_input(rt, route, order, key, input.value, 6);
             }
         }
     }
 }
 
 // The length of the key's shares, or of the prepared keys, has that name.
-fn with_name(route: Route, name: &[u8]) {
-    let order = arguments::number(3, b"ORDER");
+fn with_name<R: Env>(rt: &R, route: Route, name: &[u8]) {
+    let order = arguments::number(rt, 3, b"ORDER");
     if !order.good {
         return;
     }
-    let key = arguments::number(4, name);
+    let key = arguments::number(rt, 4, name);
     if key.good {
-        with_key(route, order.value, key.value);
+        with_key(rt, route, order.value, key.value);
     }
 }
 
 // The line must have so many words.
-fn with_lengths(route: Route, count: usize, wanted: usize) {
+fn with_lengths<R: Env>(rt: &R, route: Route, count: usize, wanted: usize) {
     if !commands::has_words(count, wanted) {
         return;
     }
     match route {
-        Route::EncryptPrepared => with_name(route, b"PREPAREDLEN"),
-        _ => with_name(route, b"KEYLEN"),
+        Route::EncryptPrepared => with_name(rt, route, b"PREPAREDLEN"),
+        _ => with_name(rt, route, b"KEYLEN"),
     }
 }
 
 // A line of that many words asks about a call.
-fn run_on(c: Command, count: usize) {
+fn run_on<R: Env>(rt: &R, c: Command, count: usize) {
     match c {
-        Command::Encrypt => with_lengths(Route::Encrypt, count, 8),
-        Command::Decrypt => with_lengths(Route::Decrypt, count, 8),
-        Command::Prepare => with_lengths(Route::Prepare, count, 7),
-        Command::EncryptPrepared => with_lengths(Route::EncryptPrepared, count, 8),
+        Command::Encrypt => with_lengths(rt, Route::Encrypt, count, 8),
+        Command::Decrypt => with_lengths(rt, Route::Decrypt, count, 8),
+        Command::Prepare => with_lengths(rt, Route::Prepare, count, 7),
+        Command::EncryptPrepared => with_lengths(rt, Route::EncryptPrepared, count, 8),
         _ => faults::print(
             b"ROUTE",
             b" is none of encrypt, decrypt, prepare, encrypt-prepared",
@@ -105,8 +106,8 @@ fn run_on(c: Command, count: usize) {
     }
 }
 
-pub fn run() {
+pub fn run<R: Env>(rt: &R) {
     let mut word = io::buffer();
-    let n = os::arg(2, &mut word);
-    run_on(commands::named(&word[..n]), os::arg_count());
+    let n = arguments::word(rt, 2, &mut word);
+    run_on(rt, commands::named(&word[..n]), arguments::count(rt));
 }

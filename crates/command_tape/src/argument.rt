@@ -7,6 +7,8 @@ ghost use Rattle.command_line.specs.Filled.{Filled};
 
 use command_line::arguments::Got;
 use command_line::{arguments, faults};
+use std::env::Env;
+use std::io::Read;
 use text::{hexadecimal, packing};
 
 // Room for the longest tape.
@@ -30,11 +32,11 @@ fn decoded(text: &[u8], out: &mut [u32]) -> Got
 }
 
 // Argument i as digits of words.
-fn from_digits(i: usize, out: &mut [u32]) -> Got
+fn from_digits<R: Env>(rt: &R, i: usize, out: &mut [u32]) -> Got
     ensures { result.count ≤ length out.new }
 {
     let mut text = arguments::wide_buffer();
-    let got = arguments::digits(i, b"TAPE", &mut text);
+    let got = arguments::digits(rt, i, b"TAPE", &mut text);
     if !got.good {
         return arguments::nothing();
     }
@@ -43,16 +45,16 @@ fn from_digits(i: usize, out: &mut [u32]) -> Got
 }
 
 // Standard input as it is, at the front of out. One read past what came tells the end from a failure, and from more than there is room for.
-fn raw(out: &mut [u8]) -> Got
+fn raw<R: Input>(rt: &R, out: &mut [u8]) -> Got
     ensures { result.count ≤ length out.new }
 {
     let mut past = [0u8; 1];
     let n = io::read_full(0, out);
-    let more = libc::read(0, &mut past);
-    if more < 0 {
+    let mut input = rt.reader();
+    let Ok(more) = input.read(&mut past) else {
         faults::print(b"TAPE", b" cannot be read from standard input");
         return arguments::nothing();
-    }
+    };
     if 0 < more {
         faults::print_long(b"TAPE", out.len() / 4, 4);
         return arguments::nothing();
@@ -76,11 +78,11 @@ fn packed(bytes: &[u8], out: &mut [u32]) -> Got
     got
 }
 
-fn from_input(out: &mut [u32]) -> Got
+fn from_input<R: Input>(rt: &R, out: &mut [u32]) -> Got
     ensures { result.count ≤ length out.new }
 {
     let mut bytes = io::large_buffer();
-    let got = raw(&mut bytes);
+    let got = raw(rt, &mut bytes);
     if !got.good {
         return arguments::nothing();
     }
@@ -89,20 +91,20 @@ fn from_input(out: &mut [u32]) -> Got
 }
 
 // Whether argument i is `-`. A longer one is read as empty.
-fn is_dash(i: usize) -> bool {
+fn is_dash<R: Env>(rt: &R, i: usize) -> bool {
     let mut text = [0u8; 1];
-    if os::arg(i, &mut text) == 0 {
+    if arguments::word(rt, i, &mut text) == 0 {
         return false;
     }
     text[0] == b'-'
 }
 
 // Argument i as a tape, at the front of out.
-pub fn read(i: usize, out: &mut [u32]) -> Got
+pub fn read<R: Env + Input>(rt: &R, i: usize, out: &mut [u32]) -> Got
     ensures { result.count ≤ length out.new }
 {
-    if is_dash(i) {
-        return from_input(out);
+    if is_dash(rt, i) {
+        return from_input(rt, out);
     }
-    from_digits(i, out)
+    from_digits(rt, i, out)
 }

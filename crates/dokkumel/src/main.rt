@@ -9,34 +9,35 @@
 mod calls;
 
 use command_line::commands::Command;
-use command_line::{commands, faults, help};
+use command_line::{arguments, commands, faults, help};
 use command_lists::layout;
 use command_places::places;
 use command_previews::previews;
+use std::env::Env;
 
-fn run(c: Command) {
+fn run<R: Env + Input>(rt: &R, c: Command) {
     match c {
-        Command::Places => places::run(),
-        Command::CubePlaces => command_cubes::places::run(),
-        Command::Tape => layout::run(),
-        Command::Preview => previews::run(),
+        Command::Places => places::run(rt),
+        Command::CubePlaces => command_cubes::places::run(rt),
+        Command::Tape => layout::run(rt),
+        Command::Preview => previews::run(rt),
         Command::Help => help::print(),
         Command::Unknown => faults::print(b"", b"unknown command, see dokkumel help"),
-        _ => calls::run(c),
+        _ => calls::run(rt, c),
     }
 }
 
 // A first argument that the buffer does not hold is read as empty, and names no command.
-fn main() {
+fn main(rt: HostRuntime) {
     let mut word = io::buffer();
-    let count = os::arg_count();
+    let count = arguments::count(&rt);
     if count < 2 {
         help::print();
         return;
     }
-    let n = os::arg(1, &mut word);
+    let n = arguments::word(&rt, 1, &mut word);
     let c = commands::named(&word[..n]);
     if commands::is_whole(c, count) {
-        run(c);
+        run(&rt, c);
     }
 }

@@ -1,10 +1,10 @@
 -- A tape that was packed holds the bytes that it was packed from. Assumes nothing.
-use mathlib.Core.Path.{◌≡◌, refl, sym, ap, ◌∙◌}
+use mathlib.Core.Path.{◌≡◌, refl, ap, ◌∙◌}
 use mathlib.Core.List.{List, [], ◌∷◌, ◌++◌}
 use Prim.Native.Nat.{ℕ, zero, suc, ◌+◌, ◌*◌, ◌/◌, ◌%◌, ◌<◌}
 use native.Mathlib.Omega.{arith}
 use lib.ListN.{length}
-use Rattle.xor.specs.Lists.{at, tab, runs, All, Below, done, ◌&◌}
+use Rattle.xor.specs.Lists.{at, tab, runs, Below, done, ◌&◌}
 use Rattle.xor.proofs.ListsLaws.{tab_first, tab_cong}
 use Rattle.tape_words.specs.Words.{word_bytes, bytes_of}
 use Rattle.text.specs.Hexadecimal as Hexadecimal
