@@ -265,7 +265,7 @@ module _ (rf : D.Refresh) {d : ℕ} (same : Same rf d) where
       let b : D.box rf (D.sh (bytes l ss) k) ts ≡ vs =
       ap (λ (x : List ℕ). D.box rf x ts) (bytes-at l ss k h) ∙ box_agrees (column k ss) ts (column-length k hs) in
       let s : set (bytes l ss) k vs ≡ bytes l (put ss k vs) = sym (bytes-put k vs h (length-box_of Forward d (column k ss) ts) hs) in
-      rw (b, s, box_tape) (subs_placed (drop (box_need d) ts) gs (put-shared k vs hs))
+      rw (b, s, box_tape) (subs_placed {ss = put ss k vs} (drop (box_need d) ts) gs (put-shared k vs hs))
 
   placed_word : (ts : List ℕ) (xs : D.Shared) → length xs ≡ 4 → D.boxes rf d xs ts ≡ placed in_word xs ts
   unfolding placed D.boxes D.sh
@@ -343,7 +343,7 @@ module _ (rf : D.Refresh) {d : ℕ} (same : Same rf d) where
         ∙ ap₂ (λ (t : D.Shared) (r : List ℕ). D.expanded_from rf left (suc i) nk d (all ++ D.add old t) r)
         (temp_turned (kind nk i) (i / nk) ts (words-shared (i - 1) (omega arith) hs)) (rest_turned (kind nk i) ts)
         ∙ ap (λ (x : D.Shared). D.expanded_from rf left (suc i) nk d x rest) (next_turned i ts h hs)
-        ∙ expanded_from_turned left (suc i) rest (omega arith) (longer_shared nk some i ts h hs)
+        ∙ expanded_from_turned {ks = next} left (suc i) rest (omega arith) (longer_shared nk some i ts h hs)
         ∙ ap (λ (n : ℕ). bytes n (schedule_from left (suc i) nk d next rest)) e)
 
     expanded_turned : {k : Shares} (ts : List ℕ) → Shared (4 * nk) d k
@@ -391,7 +391,7 @@ module _ (rf : D.Refresh) {d : ℕ} (same : Same rf d) where
         ap (λ (last : Bool). after (D.add (cond last sub (D.mixed 4 sub)) (D.round_key (bytes l ks) r)) (drop (16 * D.box_tape rf d) ts))
         (eqb-suc-zero left)
         ∙ ap₂ after (round_turned r ts (omega arith) hs) (ap (λ (n : ℕ). drop n ts) round_need_is)
-        ∙ rounds_turned left (suc r) (drop (round_need d) ts) (omega arith) (round-shared keys r ts (omega arith) hs)
+        ∙ rounds_turned {s = masked_round d r ks s ts} left (suc r) (drop (round_need d) ts) (omega arith) (round-shared keys r ts (omega arith) hs)
 
   -- ---- THE CIPHER
 
