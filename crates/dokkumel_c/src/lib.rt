@@ -4,7 +4,7 @@
 // taken changes. A preview answers as its call would. C passes a slice as a pointer and a length.
 #![tactic(auto)]
 
-pub mod cipher;
+pub mod blocks;
 pub mod cube;
 pub mod prepared;
 pub mod previews;

@@ -51,7 +51,8 @@ input_through room need d x t o a c e f = input-passed room need d x t o (answer
 abbrev split_tests_lem : (n l d t o : ℕ) → List Test
 split_tests_lem n l d t o = test Order (served d) ∷ test Input (ltb 0 l) ∷ test Output (eqb o (suc d * l)) ∷ test Tape (reaches t n) ∷ []
 
-pub split-answered : (n l d x t o : ℕ) (a : Answer) → l ≡ share_length 1 x → n ≡ words_for (d * l) → a ≡ answered (split_tests_lem n l d t o) (took n)
+pub split-answered : (n l d x t o : ℕ) (a : Answer) → l ≡ share_length 1 x → n ≡ words_for (d * l)
+    → a ≡ answered (split_tests_lem n l d t o) (took n)
     → a ≡ answered (split_tests d x t o) (took (words_for (split_need d (share_length 1 x))))
 unfolding split_need
 split-answered n l d x t o a e q f =

@@ -33,7 +33,8 @@ returns-then-output-l c =
     let a = c.args in
     join_answered _ a.order a.input a.output _ (c.share_length-l.ensures ∙ ap (λ (n : ℕ). share_length n a.input) (add-one a.order))
     (answered_next _ _ _ _ (sym c.served.ensures ∙ c.if-not-served.false)
-    (answered_next _ _ _ _ (lt-ltb 0 c.share_length-l.result (omega (arith, c.if-l-eq0.false))) (answered_here _ _ _ _ (ne_eqb _ _ c.if-output-l.true))))
+    (answered_next _ _ _ _ (lt-ltb 0 c.share_length-l.result (omega (arith, c.if-l-eq0.false)))
+    (answered_here _ _ _ _ (ne_eqb _ _ c.if-output-l.true))))
 
 pub returns : goal.returns
 returns c =

@@ -2,7 +2,7 @@
 -- Assumes nothing.
 use mathlib.Core.Path.{◌≡◌, refl, sym, ap, ◌∙◌}
 use mathlib.Core.List.{List}
-use Prim.Native.Nat.{ℕ, ◌+◌, ◌-◌, ◌*◌, ◌%◌, ◌^◌, ◌≤◌, ◌<◌}
+use Prim.Native.Nat.{ℕ, ◌+◌, ◌*◌, ◌%◌, ◌^◌, ◌<◌}
 use native.Mathlib.Omega.{arith}
 use lib.ListN.{length, drop, get_or}
 use native.Mathlib.Nat.{zero-mul, one-mul, mod-eq_of_lt}
@@ -15,14 +15,7 @@ use Rattle.xor.proofs.DigitLaws.{digit_cases}
 use Rattle.xor.proofs.XorLaws.{xor_assoc}
 use Rattle.gf256.specs.Field.{rows_from, linear_by, affine_by, parity}
 use Rattle.byte_maps.proofs.AffineLaws.{parity_lt}
-use Rattle.byte_maps.proofs.affine_map.by_rows.Statement.{statement}
-use Rattle.byte_maps.proofs.affine_map.by_rows.Tie as tie
-
-abbrev invariant-loop : tie.invariant-loop
-invariant-loop rows constant a r₀ i₀ r i = (i ≤ 8) × (bit_xor r (rows_from (drop i rows) i a) ≡ linear_by rows a)
-
-abbrev decreases-loop : tie.decreases-loop
-decreases-loop rows constant a r₀ i₀ r i = 8 - i
+use Rattle.byte_maps.proofs.affine_map.by_rows.Goals as goal
 
 -- a digit shifted to its place
 placed : (d i : ℕ) → d < 2 → i < 8 → d * 2 ^ i % 256 ≡ if_set d (2 ^ i)
@@ -48,33 +41,15 @@ gathered rows r i a e =
     sym
     (ap (λ (l : List ℕ). bit_xor r (rows_from l i a)) (ap (λ (k : ℕ). drop k rows) e ∙ drop-length rows) ∙ xor_zero_r r)
 
-loop-holds : tie.Need-loop-init invariant-loop decreases-loop
+pub loop-i-init : goal.loop-i-init
 unfolding linear_by
-loop-holds c = (omega arith, refl)
+loop-i-init c = (omega arith, refl)
 
-shared-slice-read-n : tie.Need-shared-slice-read-n invariant-loop decreases-loop
-shared-slice-read-n c = omega arith
-
-cast-r : tie.Need-overflow-cast-r invariant-loop decreases-loop
-cast-r c = omega arith
-
-cast-r-2 : tie.Need-overflow-cast-r-2 invariant-loop decreases-loop
-cast-r-2 c = omega arith
-
-shl-r : tie.Need-overflow-shl-r invariant-loop decreases-loop
-shl-r c = omega arith
-
-add-i : tie.Need-overflow-add-i invariant-loop decreases-loop
-add-i c = omega arith
-
-loop-less : tie.Need-loop-smaller invariant-loop decreases-loop
-loop-less c = omega arith
-
-loop-again : tie.Need-loop-preserved invariant-loop decreases-loop
+pub loop-i-preserved : goal.loop-i-preserved
 unfolding parity
-loop-again c =
-    let v = c.before.before.before.args in
-    let at = c.before.before.loop in
+loop-i-preserved c =
+    let v = c.args in
+    let at = c.loop-i in
     let rows = v.rows.now in
     let m = bit_and v.a (get_or rows at.i 0) in (
       omega arith,
@@ -84,25 +59,9 @@ loop-again c =
           ∙ at.invariant.1,
     )
 
-returns : tie.Need-returns invariant-loop decreases-loop
+pub returns : goal.returns
 unfolding affine_by
 returns c =
-    let v = c.before.before.args in
-    let at = c.before.loop in
+    let v = c.args in
+    let at = c.loop-i in
     ap (λ (n : ℕ). bit_xor n v.constant) (gathered v.rows.now at.r at.i v.a (omega arith) ∙ at.invariant.1)
-
-pub by-rows-spec : {M : Type 1} → statement M
-by-rows-spec =
-    tie.close
-    (tie.spec
-    invariant-loop
-    decreases-loop
-    loop-holds
-    shared-slice-read-n
-    cast-r
-    cast-r-2
-    shl-r
-    add-i
-    loop-less
-    loop-again
-    returns)

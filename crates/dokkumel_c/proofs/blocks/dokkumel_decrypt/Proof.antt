@@ -1,8 +1,8 @@
--- `dokkumel_c::cipher::dokkumel_decrypt` meets its contract. Assumes nothing.
+-- `dokkumel_c::blocks::dokkumel_decrypt` meets its contract. Assumes nothing.
 use borrow.Author.Rules.{rules}
 use Rattle.dokkumel_c.proofs.ReturnedLaws.{handed_on}
-use Rattle.dokkumel_c.proofs.cipher.dokkumel_decrypt.Statement.{statement}
-use Rattle.dokkumel_c.proofs.cipher.dokkumel_decrypt.Tie as tie
+use Rattle.dokkumel_c.proofs.blocks.dokkumel_decrypt.Statement.{statement}
+use Rattle.dokkumel_c.proofs.blocks.dokkumel_decrypt.Tie as tie
 
 decrypt-requires : tie.Need-decrypt-requires
 decrypt-requires c κs = search rules

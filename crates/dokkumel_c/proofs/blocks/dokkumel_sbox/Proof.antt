@@ -1,8 +1,8 @@
--- `dokkumel_c::cipher::dokkumel_sbox` meets its contract. Assumes nothing.
+-- `dokkumel_c::blocks::dokkumel_sbox` meets its contract. Assumes nothing.
 use borrow.Author.Rules.{rules}
 use Rattle.dokkumel_c.proofs.ReturnedLaws.{handed_on}
-use Rattle.dokkumel_c.proofs.cipher.dokkumel_sbox.Statement.{statement}
-use Rattle.dokkumel_c.proofs.cipher.dokkumel_sbox.Tie as tie
+use Rattle.dokkumel_c.proofs.blocks.dokkumel_sbox.Statement.{statement}
+use Rattle.dokkumel_c.proofs.blocks.dokkumel_sbox.Tie as tie
 
 masked-box-requires : tie.Need-masked-box-requires
 masked-box-requires c κs = search rules

@@ -1,8 +1,8 @@
--- `dokkumel_c::cipher::dokkumel_encrypt` meets its contract. Assumes nothing.
+-- `dokkumel_c::blocks::dokkumel_encrypt` meets its contract. Assumes nothing.
 use borrow.Author.Rules.{rules}
 use Rattle.dokkumel_c.proofs.ReturnedLaws.{handed_on}
-use Rattle.dokkumel_c.proofs.cipher.dokkumel_encrypt.Statement.{statement}
-use Rattle.dokkumel_c.proofs.cipher.dokkumel_encrypt.Tie as tie
+use Rattle.dokkumel_c.proofs.blocks.dokkumel_encrypt.Statement.{statement}
+use Rattle.dokkumel_c.proofs.blocks.dokkumel_encrypt.Tie as tie
 
 encrypt-requires : tie.Need-encrypt-requires
 encrypt-requires c κs = search rules

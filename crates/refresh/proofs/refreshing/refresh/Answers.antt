@@ -1,0 +1,56 @@
+-- `refresh::refreshing::refresh` meets its contract. Assumes nothing.
+use mathlib.Core.List.{List}
+use mathlib.Core.Path.{ap, sym, ◌∙◌}
+use Prim.Native.Nat.{ℕ}
+use native.Mathlib.Nat.{one-mul}
+use native.Mathlib.Omega.{arith}
+use lib.ListN.{length}
+use Rattle.outcomes.specs.Outcome.{took}
+use Rattle.outcomes.proofs.OutcomeLaws.{settled-refused, settled-done}
+use Rattle.tape_words.specs.Words.{bytes_of}
+use Rattle.shares.proofs.CallsLaws.{input-answered, input_through}
+use Rattle.xor.proofs.WriteLaws.{front-all}
+use Rattle.refresh.specs.Calls.{refresh_outcome}
+use Rattle.refresh.specs.Refresh.{refreshed, refresh_need}
+use Rattle.refresh.proofs.RefreshLaws.{refresh_need-pairs}
+use Rattle.refresh.proofs.refreshing.refresh.Goals as goal
+
+pub returns-in_default : goal.returns-in_default
+unfolding refresh_outcome
+returns-in_default c =
+    let v = c.args in
+    let e = input-answered _ (refresh_need v.order) v.order (length v.input.now) (length v.tape.now) (length v.output.now) _
+    (one-mul _ ∙ sym (refresh_need-pairs v.order)) c.byte_answer-answer.ensures in
+    settled-refused _ _ _ _ _ e _ c.in_default.is
+
+pub put-requires : goal.put-requires
+put-requires c =
+    let v = c.args in
+    let e = input-answered _ (refresh_need v.order) v.order (length v.input.now) (length v.tape.now) (length v.output.now) _
+    (one-mul _ ∙ sym (refresh_need-pairs v.order)) c.byte_answer-answer.ensures in
+    let h = input_through _ _ v.order (length v.input.now) (length v.tape.now) (length v.output.now) _ _ e
+    c.in-Taken.is in
+    omega (arith, h.input, h.output)
+
+pub refresh_on_words-requires : goal.refresh_on_words-requires
+refresh_on_words-requires c =
+    let v = c.args in
+    let e = input-answered _ (refresh_need v.order) v.order (length v.input.now) (length v.tape.now) (length v.output.now) _
+    (one-mul _ ∙ sym (refresh_need-pairs v.order)) c.byte_answer-answer.ensures in
+    let h = input_through _ _ v.order (length v.input.now) (length v.tape.now) (length v.output.now) _ _ e
+    c.in-Taken.is in
+    let l = c.put.auto.out in
+    (h.order, omega (arith, h.output, l), h.drawn)
+
+pub returns : goal.returns
+unfolding refresh_outcome
+returns c =
+    let v = c.args in
+    let e = input-answered _ (refresh_need v.order) v.order (length v.input.now) (length v.tape.now) (length v.output.now) _
+    (one-mul _ ∙ sym (refresh_need-pairs v.order)) c.byte_answer-answer.ensures in
+    let h = input_through _ _ v.order (length v.input.now) (length v.tape.now) (length v.output.now) _ _ e
+    c.in-Taken.is in
+    let m = c.put.ensures ∙ front-all v.input.now v.output.now (h.input ∙ sym h.output) in
+    let p = c.refresh_on_words.ensures in
+    settled-done _ _ _ _ _ e _ _ _ c.in-Taken.is (ap took p.0)
+    (p.1 ∙ ap (λ (x : List ℕ). refreshed v.order x (bytes_of v.tape.now)) m)
