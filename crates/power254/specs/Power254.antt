@@ -1,6 +1,6 @@
 -- Power 254 of a byte in shares, the inverse in the field (SecExp254 of document 000), by document 01's chain.
--- Document 01, "The steps over shares", decides, and what counts as a field product document 02, wish 9. Assumes nothing: these are definitions. A step that draws takes its bytes from the front of the tape
--- it is given.
+-- Document 01, "The steps over shares", decides, and what counts as a field product document 02, wish 9. Assumes nothing: these
+-- are definitions. A step that draws takes its bytes from the front of the tape it is given.
 use Rattle.std.specs.Prelude.{List, map, ℕ, ◌+◌, ◌*◌, drop}
 use Rattle.gf256.specs.Field.{times, squared, fourth, sixteenth}
 use Rattle.isw.specs.Place.{product, product_need}

@@ -1,0 +1,23 @@
+-- `linear::steps::shift_rows` meets its contract. Assumes nothing.
+use mathlib.Core.List.{List}
+use mathlib.Core.Path.{◌≡◌, refl, ap₂, ◌∙◌}
+use Prim.Native.Nat.{ℕ, ◌≤◌, ◌+◌, ◌*◌, ◌/◌, ◌%◌, ◌-◌}
+use native.Mathlib.Omega.{arith}
+use lib.ListN.{length, get_or, length-set}
+use Rattle.xor.specs.Lists.{at}
+use Rattle.xor.proofs.WriteLaws.{over, over_none, over_more, over_all}
+use Rattle.gf256.specs.declared.Direction.{Direction}
+use Rattle.cipher.specs.Fips197.{cell, state}
+use Rattle.linear.specs.Steps.{turn_of}
+use Rattle.linear.proofs.StepLaws.{rows_turned}
+use Rattle.linear.proofs.steps.shift_rows.Given as goal
+
+-- byte k of the new state
+abbrev pub shifted_byte : Direction → List ℕ → ℕ → ℕ
+shifted_byte w t k = cell t (k % 4) (k / 4 + turn_of w (k % 4))
+
+abbrev pub invariant-loop-k : goal.invariant-loop-k
+invariant-loop-k l = (l.k ≤ 16) × (l.s ≡ over (shifted_byte l.which l.t) l.k l.initial.s) × (length l.s ≡ length l.initial.s)
+
+abbrev pub decreases-loop-k : goal.decreases-loop-k
+decreases-loop-k l = 16 - l.k

@@ -1,0 +1,18 @@
+-- `sbox::boxes::affine_all` meets its contract. Assumes nothing.
+use mathlib.Core.Path.{◌≡◌, refl}
+use Prim.Native.Nat.{ℕ, ◌≤◌, ◌<◌, ◌-◌}
+use native.Mathlib.Omega.{arith}
+use lib.ListN.{length, get_or, length-set}
+use Rattle.gf256.specs.Directions.{affine_of}
+use Rattle.power254.proofs.EachLaws.{each, each_none, each_named, each_all, numbered}
+use borrow.Author.Rules.{rules}
+use Rattle.sbox.proofs.boxes.affine_all.Given as goal
+
+abbrev pub invariant-loop-k : goal.invariant-loop-k
+invariant-loop-k l =
+    (l.k ≤ l.k-end) × (l.k-end ≡ length l.initial.x) × (l.x ≡ each (affine_of l.which) l.k l.initial.x) × (length l.x ≡ length l.initial.x)
+    × (length l.initial.x ≤ 9)
+    × ((q : ℕ) → q < 9 → get_or l.numbers q 0 ≡ q)
+
+abbrev pub decreases-loop-k : goal.decreases-loop-k
+decreases-loop-k l = l.k-end - l.k

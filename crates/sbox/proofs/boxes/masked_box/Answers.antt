@@ -1,0 +1,59 @@
+-- `sbox::boxes::masked_box` meets its contract. Assumes nothing.
+use mathlib.Core.Path.{ap, sym, ◌∙◌}
+use mathlib.Core.List.{List}
+use Prim.Native.Nat.{ℕ}
+use native.Mathlib.Omega.{arith}
+use lib.ListN.{length}
+use Rattle.gf256.specs.Tables.{lent}
+use Rattle.outcomes.specs.Outcome.{took}
+use Rattle.outcomes.proofs.OutcomeLaws.{settled-refused, settled-done}
+use Rattle.shares.proofs.CallsLaws.{input-answered, input_through}
+use Rattle.xor.proofs.WriteLaws.{front-all}
+use Rattle.tape_words.specs.Words.{bytes_of}
+use Rattle.tape_words.proofs.WordsLaws.{words_reach}
+use Rattle.power254.proofs.PowerLaws.{power_need-pairs}
+use Rattle.sbox.specs.Box.{box, box_need}
+use Rattle.sbox.specs.Calls.{box_outcome}
+use Rattle.sbox.proofs.boxes.masked_box.Goals as goal
+
+pub returns-in_default : goal.returns-in_default
+unfolding box_outcome
+returns-in_default c =
+    let v = c.args in
+    let e = input-answered _ (box_need v.order) v.order (length v.input.now) (length v.tape.now) (length v.output.now) _
+    (sym (power_need-pairs v.order)) c.byte_answer-answer.ensures in
+    settled-refused _ _ _ _ _ e _ c.in_default.is
+
+pub put-requires : goal.put-requires
+put-requires c =
+    let v = c.args in
+    let e = input-answered _ (box_need v.order) v.order (length v.input.now) (length v.tape.now) (length v.output.now) _
+    (sym (power_need-pairs v.order)) c.byte_answer-answer.ensures in
+    let h = input_through _ _ v.order (length v.input.now) (length v.tape.now) (length v.output.now) _ _ e
+    c.in-Taken.is in
+    omega (arith, h.input, h.output)
+
+pub box_on_words-requires : goal.box_on_words-requires
+box_on_words-requires c =
+    let v = c.args in
+    let e = input-answered _ (box_need v.order) v.order (length v.input.now) (length v.tape.now) (length v.output.now) _
+    (sym (power_need-pairs v.order)) c.byte_answer-answer.ensures in
+    let h = input_through _ _ v.order (length v.input.now) (length v.tape.now) (length v.output.now) _ _ e
+    c.in-Taken.is in
+    let l = c.put.auto.out in (
+      record { order = h.order; long = omega (arith, h.output, l); drawn = words_reach _ v.tape.now h.drawn },
+      lent c.logs-logs.ensures c.antilogs-antilogs.ensures,
+    )
+
+pub returns : goal.returns
+unfolding box_outcome
+returns c =
+    let v = c.args in
+    let e = input-answered _ (box_need v.order) v.order (length v.input.now) (length v.tape.now) (length v.output.now) _
+    (sym (power_need-pairs v.order)) c.byte_answer-answer.ensures in
+    let h = input_through _ _ v.order (length v.input.now) (length v.tape.now) (length v.output.now) _ _ e
+    c.in-Taken.is in
+    let m = c.put.ensures ∙ front-all v.input.now v.output.now (h.input ∙ sym h.output) in
+    let p = c.box_on_words.ensures in
+    settled-done _ _ _ _ _ e _ _ _ c.in-Taken.is (ap took p.0)
+    (p.1 ∙ ap (λ (x : List ℕ). box v.order x (bytes_of v.tape.now)) m)

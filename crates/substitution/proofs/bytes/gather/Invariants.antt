@@ -1,0 +1,15 @@
+-- `substitution::bytes::gather` meets its contract. Assumes nothing.
+use mathlib.Core.Path.{◌≡◌, refl}
+use Prim.Native.Nat.{suc, ◌≤◌, ◌+◌, ◌*◌, ◌-◌}
+use native.Mathlib.Omega.{arith}
+use lib.ListN.{length, length-set}
+use Rattle.xor.specs.Lists.{at}
+use Rattle.xor.proofs.WriteLaws.{over, over_none, over_more}
+use Rattle.buffers.proofs.PartLaws.{place_lt, gathered}
+use Rattle.substitution.proofs.bytes.gather.Given as goal
+
+abbrev pub invariant-loop-i : goal.invariant-loop-i
+invariant-loop-i l = (l.i ≤ suc l.d) × (l.i-end ≡ suc l.d) × (l.x ≡ over (λ j. at l.s (j * l.l + l.k)) l.i l.initial.x) × (length l.x ≡ suc l.d)
+
+abbrev pub decreases-loop-i : goal.decreases-loop-i
+decreases-loop-i l = l.i-end - l.i
