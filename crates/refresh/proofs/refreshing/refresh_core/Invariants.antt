@@ -9,7 +9,8 @@ use Rattle.refresh.proofs.refreshing.refresh_core.Given as goal
 
 abbrev pub invariant-loop-i : goal.invariant-loop-i
 invariant-loop-i l =
-    (l.i ≤ l.d) × (l.drawn ≡ before_row (suc l.d) l.i) × (before_row (suc l.d) l.i ≤ refresh_need l.d) × (length l.x ≡ length l.initial.x) × (length l.own ≡ 8)
+    (l.i ≤ l.d) × (l.drawn ≡ before_row (suc l.d) l.i) × (before_row (suc l.d) l.i ≤ refresh_need l.d) × (length l.x ≡ length l.initial.x)
+    × (length l.own ≡ 8)
     × (l.x ≡ rows-refreshed (suc l.d) l.i l.initial.x l.tape)
 
 abbrev pub decreases-loop-i : goal.decreases-loop-i

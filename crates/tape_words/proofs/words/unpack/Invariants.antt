@@ -9,7 +9,8 @@ use Rattle.tape_words.proofs.words.unpack.Given as goal
 
 abbrev pub invariant-loop-k : goal.invariant-loop-k
 invariant-loop-k l =
-    (l.words ≡ words_for l.need) × (l.k ≤ l.words) × (l.room ≡ over (at (bytes_of l.tape)) (4 * l.k) l.initial.room) × (length l.room ≡ length l.initial.room)
+    (l.words ≡ words_for l.need) × (l.k ≤ l.words) × (l.room ≡ over (at (bytes_of l.tape)) (4 * l.k) l.initial.room)
+    × (length l.room ≡ length l.initial.room)
 
 abbrev pub decreases-loop-k : goal.decreases-loop-k
 decreases-loop-k l = l.words - l.k
