@@ -1,13 +1,12 @@
 -- What is read of an argument is all of it, or nothing. Assumes nothing.
 use mathlib.Core.Path.{◌≡◌, refl, sym, ap, subst, ◌∙◌}
 use mathlib.Core.Bool.{Bool, true, false}
-use mathlib.Core.List.{List, [], ◌∷◌, ◌++◌}
+use mathlib.Core.List.{List, [], ◌∷◌}
 use Prim.Native.Nat.{ℕ, ◌*◌, ◌-◌, ◌/◌, ◌%◌, ◌≤◌}
 use native.Mathlib.Nat.{sub-zero, div-add-mod'}
 use native.Mathlib.Omega.{arith}
 use borrow.Rule.Slice.PartMut.{put_mid}
 use lib.ListN.{length, take, drop}
-use lib.Seq.{length-take-le}
 use Rattle.xor.specs.Writes.{front}
 use Rattle.xor.proofs.WriteLaws.{length_front, length-part_first}
 use Rattle.command_line.specs.Filled.{Whole, Filled}
