@@ -1,56 +1,47 @@
 -- `call_listing::key::temp` meets its contract. Assumes nothing.
-use Rattle.std.proofs.Common.{arith, rules}
+use Rattle.std.proofs.Common.{arith}
 use Rattle.cipher.specs.Fips197.{turned, subbed, plain}
 use Rattle.probing.specs.SchedulePlaces.{temp_count}
 use Rattle.schedule.proofs.WordLaws.{kind_turned, kind_subbed, kind_plain}
 use Rattle.call_listing.proofs.WalkLaws.{temp-of}
-use Rattle.call_listing.proofs.key.temp.Statement.{statement}
-use Rattle.call_listing.proofs.key.temp.Tie as tie
+use Rattle.call_listing.proofs.key.temp.Goals as goal
 
-rem-left : tie.Need-nonzero-rem-left
-rem-left c = search rules
-
-turned-temp-requires : tie.Need-turned-temp-requires
-turned-temp-requires c κs =
-    let v = c.before.args in
+pub turned_temp-requires : goal.turned_temp-requires
+turned_temp-requires c =
+    let v = c.args in
     let e = temp-of v.nk v.d v.i turned (kind_turned v.nk v.i (omega arith)) in
     (omega arith, omega arith)
 
-returns : tie.Need-returns
-returns c =
-    let v = c.before.before.args in
+pub returns-then-left-eq0 : goal.returns-then-left-eq0
+returns-then-left-eq0 c =
+    let v = c.args in
     let e = temp-of v.nk v.d v.i turned (kind_turned v.nk v.i (omega arith)) in
     omega arith
 
-of-word-requires : tie.Need-of-word-requires
+pub of_word-requires : goal.of_word-requires
 unfolding temp_count
-of-word-requires c κs =
-    let v = c.before.before.before.args in
+of_word-requires c =
+    let v = c.args in
     let e = temp-of v.nk v.d v.i subbed (kind_subbed v.nk v.i (omega arith) (omega arith)) in
     (omega arith, omega arith)
 
-returns-2 : tie.Need-returns-2
+pub returns-then-left-eq4 : goal.returns-then-left-eq4
 unfolding temp_count
-returns-2 c =
-    let v = c.before.before.before.before.args in
+returns-then-left-eq4 c =
+    let v = c.args in
     let e = temp-of v.nk v.d v.i subbed (kind_subbed v.nk v.i (omega arith) (omega arith)) in
     omega arith
 
-returns-3 : tie.Need-returns-3
+pub returns-else-left-eq4 : goal.returns-else-left-eq4
 unfolding temp_count
-returns-3 c =
-    let v = c.before.before.before.args in
+returns-else-left-eq4 c =
+    let v = c.args in
     let e = temp-of v.nk v.d v.i plain (kind_plain v.nk v.i (λ z. omega arith) (λ u w. omega arith)) in
     omega arith
 
-returns-4 : tie.Need-returns-4
+pub returns-else-nk-gt6 : goal.returns-else-nk-gt6
 unfolding temp_count
-returns-4 c =
-    let v = c.before.before.args in
+returns-else-nk-gt6 c =
+    let v = c.args in
     let e = temp-of v.nk v.d v.i plain (kind_plain v.nk v.i (λ z. omega arith) (λ u w. omega arith)) in
     omega arith
-
-pub temp-spec : {M : Type 1} → statement M
-temp-spec =
-    tie.close
-    (tie.spec rem-left turned-temp-requires returns of-word-requires returns-2 returns-3 returns-4)
