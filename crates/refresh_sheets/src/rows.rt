@@ -9,7 +9,9 @@ ghost use Rattle.refresh.specs.Places.{refresh_sheet};
 ghost use Rattle.refresh_sheets.specs.Fits.{ThreeFit, RowFits, RefreshFits};
 ghost use Rattle.refresh_sheets.specs.Parts.{three_rows, row_sheet};
 
-// Three bytes, over the front of out.
+// Three bytes, over the front of out. It is a call of its own in the built library too: inlined, the loop over pairs becomes one over vectors, in
+// whose registers bytes of two places are ORed.
+#[inline(never)]
 fn put_three(drawn: u8, first: u8, second: u8, out: &mut [u8])
     requires { 3 ≤ length out.old }
     ensures { out.new ≡ front (drawn ∷ first ∷ second ∷ []) out.old }

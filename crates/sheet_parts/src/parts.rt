@@ -13,7 +13,9 @@ ghost use Rattle.sheet_parts.specs.Parts.{bytes_of, five_rows, row_bytes, starts
 use crate::Pair;
 use gf256::{Antilogs, Logs};
 
-// The five bytes of a pair, over the front of out.
+// The five bytes of a pair, over the front of out. It is a call of its own in the built library too: inlined, the loop over pairs becomes one over
+// vectors, in whose registers bytes of two places are ORed.
+#[inline(never)]
 fn put_pair(p: Pair, out: &mut [u8])
     requires { 5 ≤ length out.old }
     ensures { out.new ≡ front (bytes_of p) out.old }
