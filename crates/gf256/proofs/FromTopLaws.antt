@@ -1,5 +1,6 @@
 -- The product from the top bit: what stands after bit k is the first factor times the second shifted right by k. Assumes nothing.
-use Rattle.std.proofs.Common.{◌≡◌, ℕ, zero, suc, ◌+◌, ◌-◌, ◌*◌, ◌/◌, ◌%◌, ◌^◌, ◌<◌, ◌≤◌, sym, ap, ◌∙◌, ap₂, lt_of_le_of_lt, mod-lt, div-add-mod', arith, shr-shr}
+use Rattle.std.proofs.Common.{◌≡◌, ℕ, zero, suc, ◌+◌, ◌-◌, ◌*◌, ◌/◌, ◌%◌, ◌^◌, ◌<◌, ◌≤◌, sym, ap, ◌∙◌, ap₂, lt_of_le_of_lt, mod-lt}
+use Rattle.std.proofs.Common.{div-add-mod', arith, shr-shr}
 use lib.Pow.{shr_le}
 use lib.Bits.{bit_xor, xor_zero_r, xor_shifted}
 use Rattle.xor.specs.Digit.{if_set}

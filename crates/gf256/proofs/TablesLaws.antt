@@ -1,5 +1,7 @@
 -- The log and antilog tables: one test over each whole table, what it says of every entry, and the product that they give. Assumes nothing.
-use Rattle.std.proofs.Common.{◌≡◌, ℕ, zero, suc, ◌+◌, ◌<◌, ◌≤◌, Bool, true, false, T, eqb, ltb, List, [], ◌∷◌, sym, refl, ap, ◌∙◌, subst, ap₂, le_of_suc-le-suc, not-suc-le-zero, add-zero, add-suc, zero-lt-suc, suc-add, zero-add, div-one, arith, lit<, eqb→eq, ltb→lt}
+use Rattle.std.proofs.Common.{◌≡◌, ℕ, zero, suc, ◌+◌, ◌<◌, ◌≤◌, Bool, true, false, T, eqb, ltb, List, [], ◌∷◌, sym, refl, ap, ◌∙◌, subst}
+use Rattle.std.proofs.Common.{ap₂, le_of_suc-le-suc, not-suc-le-zero, add-zero, add-suc, zero-lt-suc, suc-add, zero-add, div-one, arith}
+use Rattle.std.proofs.Common.{lit<, eqb→eq, ltb→lt}
 use Rattle.xor.specs.Lists.{at}
 use Rattle.xor.specs.Digit.{if_set}
 use Rattle.gf256.specs.Field.{doubled, times_from, times, power}
