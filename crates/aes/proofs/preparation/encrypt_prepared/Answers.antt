@@ -1,0 +1,59 @@
+-- `aes::preparation::encrypt_prepared` meets its contract. Assumes nothing.
+use mathlib.Core.Path.{ap, ◌∙◌}
+use Prim.Native.Nat.{ℕ}
+use lib.ListN.{length}
+use Rattle.gf256.specs.Tables.{lent}
+use Rattle.outcomes.specs.Outcome.{took}
+use Rattle.outcomes.proofs.OutcomeLaws.{settled-refused, settled-done}
+use Rattle.tape_words.specs.Words.{bytes_of, words_for}
+use Rattle.tape_words.proofs.WordsLaws.{words_reach, whole_words}
+use Rattle.cipher.specs.Cipher.{encrypted_with_need, encrypted_with_laid}
+use Rattle.lengths.specs.Lengths.{prepared_words}
+use Rattle.lengths.proofs.LengthsLaws.{prepared_long}
+use Rattle.lengths.proofs.PreviewsLaws.{block_through}
+use Rattle.aes.specs.Calls.{encrypt_prepared_outcome}
+use Rattle.aes.proofs.CallsLaws.{prepared_keys_length, encrypted_with-made}
+use Rattle.aes.proofs.preparation.encrypt_prepared.Goals as goal
+
+pub returns-in_default : goal.returns-in_default
+unfolding encrypt_prepared_outcome
+returns-in_default c = settled-refused _ _ _ _ _ c.prepared_answer-answer.ensures _ c.in_default.is
+
+pub prepared_words-nk-requires : goal.prepared_words-nk-requires
+prepared_words-nk-requires c =
+    let a = c.args in
+    let nk = prepared_words a.order (length a.prepared.now) in
+    (block_through nk (words_for (encrypted_with_need nk a.order)) a.order (length a.input.now) (length a.tape.now)
+    (length a.output.now) _ _ _
+    c.prepared_answer-answer.ensures c.in-Taken.is).order
+
+pub rounds_core-taken-requires : goal.rounds_core-taken-requires
+rounds_core-taken-requires c =
+    let a = c.args in
+    let nk = prepared_words a.order (length a.prepared.now) in
+    let t = block_through nk (words_for (encrypted_with_need nk a.order)) a.order (length a.input.now) (length a.tape.now)
+    (length a.output.now) _ _ _
+    c.prepared_answer-answer.ensures c.in-Taken.is
+    in
+    let w = c.prepared_words-nk.ensures in (
+      record {
+        order = t.order;
+        small = w.1;
+        keyed = rw w.0 (prepared_keys_length _ a.order _ (prepared_long a.order (length a.prepared.now) t.some));
+        input = t.input;
+        output = t.output;
+        drawn = rw w.0 (words_reach _ a.tape.now t.drawn);
+      },
+      lent c.logs-logs.ensures c.antilogs-antilogs.ensures,
+    )
+
+pub returns : goal.returns
+unfolding encrypt_prepared_outcome
+returns c =
+    let a = c.args in
+    let w = c.prepared_words-nk.ensures.0 in
+    let made = c.rounds_core-taken.ensures in
+    settled-done _ _ _ _ _ c.prepared_answer-answer.ensures _ _ _ c.in-Taken.is
+    (ap took (whole_words _ _ made.0 ∙ ap (λ (n : ℕ). words_for (encrypted_with_need n a.order)) w))
+    (encrypted_with-made _ a.order a.prepared.now a.input.now (bytes_of a.tape.now) _ made.1
+    ∙ ap (λ (n : ℕ). encrypted_with_laid n a.order a.prepared.now a.input.now (bytes_of a.tape.now)) w)

@@ -1,0 +1,61 @@
+-- `aes::single::call` meets its contract. Assumes nothing.
+use mathlib.Core.Path.{ap, ◌∙◌}
+use Prim.Native.Nat.{ℕ}
+use lib.ListN.{length}
+use Rattle.gf256.specs.Tables.{lent}
+use Rattle.outcomes.specs.Outcome.{took}
+use Rattle.outcomes.proofs.OutcomeLaws.{settled-refused, settled-done}
+use Rattle.tape_words.specs.Words.{bytes_of, words_for}
+use Rattle.tape_words.proofs.WordsLaws.{words_reach, whole_words}
+use Rattle.cipher.specs.Cipher.{cipher_need}
+use Rattle.lengths.specs.Lengths.{key_words}
+use Rattle.lengths.proofs.LengthsLaws.{key_length}
+use Rattle.lengths.proofs.PreviewsLaws.{block_through}
+use Rattle.aes.specs.Directions.{laid_of}
+use Rattle.aes.proofs.CallsLaws.{single_is}
+use Rattle.aes.proofs.single.call.Goals as goal
+
+pub returns-in_default : goal.returns-in_default
+returns-in_default c =
+    let a = c.args in
+    settled-refused _ _ _ _ _ c.single_answer-answer.ensures _ c.in_default.is
+    ∙ single_is a.which a.order a.key.now a.input.now a.tape.now a.output.now
+
+pub key_words-nk-requires : goal.key_words-nk-requires
+key_words-nk-requires c =
+    let a = c.args in
+    let nk = key_words a.order (length a.key.now) in
+    (block_through nk (words_for (cipher_need nk a.order)) a.order (length a.input.now) (length a.tape.now)
+    (length a.output.now) _ _ _
+    c.single_answer-answer.ensures c.in-Taken.is).order
+
+pub block_core-requires : goal.block_core-requires
+block_core-requires c =
+    let a = c.args in
+    let nk = key_words a.order (length a.key.now) in
+    let t = block_through nk (words_for (cipher_need nk a.order)) a.order (length a.input.now) (length a.tape.now)
+    (length a.output.now) _ _ _
+    c.single_answer-answer.ensures c.in-Taken.is
+    in
+    let w = c.key_words-nk.ensures in (
+      record {
+        order = t.order;
+        some = rw w.0 t.some;
+        small = w.1;
+        long = rw w.0 (key_length a.order (length a.key.now) t.some);
+        input = t.input;
+        output = t.output;
+        drawn = rw w.0 (words_reach _ a.tape.now t.drawn);
+      },
+      lent c.logs-logs.ensures c.antilogs-antilogs.ensures,
+    )
+
+pub returns : goal.returns
+returns c =
+    let a = c.args in
+    let w = c.key_words-nk.ensures.0 in
+    let made = c.block_core.ensures in
+    settled-done _ _ _ _ _ c.single_answer-answer.ensures _ _ _ c.in-Taken.is
+    (ap took (whole_words _ _ made.0 ∙ ap (λ (n : ℕ). words_for (cipher_need n a.order)) w))
+    (made.1 ∙ ap (λ (n : ℕ). laid_of a.which n a.order a.key.now a.input.now (bytes_of a.tape.now)) w)
+    ∙ single_is a.which a.order a.key.now a.input.now a.tape.now a.output.now
