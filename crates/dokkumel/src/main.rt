@@ -3,7 +3,7 @@
 // `dokkumel help` lists the commands.
 //
 // A refused call prints `refused N: CAUSE` on standard output. A command line that cannot be read gets one line on standard error. The exit
-// status is 0 in every case, since a program in Rattle has no other.
+// status is 0 in every case.
 #![tactic(auto)]
 
 mod calls;
