@@ -1,11 +1,10 @@
 -- `linear::steps::add_key` meets its contract. Assumes nothing.
-use mathlib.Core.Path.{◌≡◌, refl, ap, ◌∙◌}
-use Prim.Native.Nat.{suc, ◌≤◌, ◌+◌, ◌*◌, ◌-◌}
+use mathlib.Core.Path.{refl, ap, ◌∙◌}
+use Prim.Native.Nat.{suc, ◌+◌, ◌*◌, ◌-◌}
 use native.Mathlib.Omega.{arith}
-use lib.ListN.{length}
 use Rattle.shares.specs.Strings.{laid}
 use Rattle.buffers.proofs.PartLaws.{place_lt}
-use Rattle.buffers.proofs.ShareLaws.{Done, done_none, done_more, done_all}
+use Rattle.buffers.proofs.ShareLaws.{done_none, done_more, done_all}
 use Rattle.buffers.proofs.SecondLaws.{with_key, with_key_length, with_key_part, with_key_all}
 use borrow.Author.Rules.{rules}
 use Rattle.linear.proofs.steps.add_key.Goals as goal

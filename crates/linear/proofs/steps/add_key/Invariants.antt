@@ -1,13 +1,9 @@
 -- `linear::steps::add_key` meets its contract. Assumes nothing.
-use mathlib.Core.Path.{◌≡◌, refl, ap, ◌∙◌}
-use Prim.Native.Nat.{suc, ◌≤◌, ◌+◌, ◌*◌, ◌-◌}
-use native.Mathlib.Omega.{arith}
+use mathlib.Core.Path.{◌≡◌}
+use Prim.Native.Nat.{suc, ◌≤◌, ◌-◌}
 use lib.ListN.{length}
-use Rattle.shares.specs.Strings.{laid}
-use Rattle.buffers.proofs.PartLaws.{place_lt}
-use Rattle.buffers.proofs.ShareLaws.{Done, done_none, done_more, done_all}
-use Rattle.buffers.proofs.SecondLaws.{with_key, with_key_length, with_key_part, with_key_all}
-use borrow.Author.Rules.{rules}
+use Rattle.buffers.proofs.ShareLaws.{Done}
+use Rattle.buffers.proofs.SecondLaws.{with_key}
 use Rattle.linear.proofs.steps.add_key.Given as goal
 
 abbrev pub invariant-loop-i : goal.invariant-loop-i

@@ -1,13 +1,13 @@
 -- `linear::steps::mix_columns` meets its contract. Assumes nothing.
 use mathlib.Core.List.{List}
 use mathlib.Core.Path.{◌≡◌, refl, ap, ◌∙◌}
-use Prim.Native.Nat.{ℕ, ◌≤◌, ◌<◌, ◌+◌, ◌*◌, ◌/◌, ◌%◌, ◌-◌}
+use Prim.Native.Nat.{ℕ, ◌<◌, ◌+◌, ◌*◌, ◌/◌, ◌%◌}
 use native.Mathlib.Omega.{arith}
-use lib.ListN.{length, get_or, length-set}
+use lib.ListN.{get_or, length-set}
 use Rattle.xor.specs.Lists.{at}
 use Rattle.gf256.specs.declared.Direction.{Direction}
 use Rattle.gf256.specs.Directions.{mixed_of}
-use Rattle.xor.proofs.WriteLaws.{over, over_none, over_more, over_all}
+use Rattle.xor.proofs.WriteLaws.{over_none, over_more, over_all}
 use Rattle.cipher.specs.Fips197.{cell, state}
 use Rattle.linear.proofs.StepLaws.{columns_mixed}
 use Rattle.linear.proofs.steps.mix_columns.Invariants.{mixed_byte}

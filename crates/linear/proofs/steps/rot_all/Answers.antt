@@ -1,11 +1,10 @@
 -- `linear::steps::rot_all` meets its contract. Assumes nothing.
-use mathlib.Core.Path.{◌≡◌, refl}
-use Prim.Native.Nat.{suc, ◌≤◌, ◌*◌, ◌+◌, ◌-◌}
+use mathlib.Core.Path.{refl}
+use Prim.Native.Nat.{suc, ◌*◌, ◌+◌, ◌-◌}
 use native.Mathlib.Omega.{arith}
-use lib.ListN.{length}
 use Rattle.cipher.specs.Fips197.{rot_word}
 use Rattle.cipher.proofs.FipsLaws.{rot_word-length}
-use Rattle.buffers.proofs.ShareLaws.{Done, done_none, done_more, done-map}
+use Rattle.buffers.proofs.ShareLaws.{done_none, done_more, done-map}
 use borrow.Author.Rules.{rules}
 use Rattle.linear.proofs.steps.rot_all.Goals as goal
 

@@ -1,12 +1,9 @@
 -- `linear::steps::rot_all` meets its contract. Assumes nothing.
-use mathlib.Core.Path.{◌≡◌, refl}
-use Prim.Native.Nat.{suc, ◌≤◌, ◌*◌, ◌+◌, ◌-◌}
-use native.Mathlib.Omega.{arith}
+use mathlib.Core.Path.{◌≡◌}
+use Prim.Native.Nat.{suc, ◌≤◌, ◌-◌}
 use lib.ListN.{length}
 use Rattle.cipher.specs.Fips197.{rot_word}
-use Rattle.cipher.proofs.FipsLaws.{rot_word-length}
-use Rattle.buffers.proofs.ShareLaws.{Done, done_none, done_more, done-map}
-use borrow.Author.Rules.{rules}
+use Rattle.buffers.proofs.ShareLaws.{Done}
 use Rattle.linear.proofs.steps.rot_all.Given as goal
 
 abbrev pub invariant-loop-i : goal.invariant-loop-i

@@ -1,11 +1,11 @@
 -- `linear::steps::shift_rows` meets its contract. Assumes nothing.
 use mathlib.Core.List.{List}
 use mathlib.Core.Path.{◌≡◌, refl, ap₂, ◌∙◌}
-use Prim.Native.Nat.{ℕ, ◌≤◌, ◌+◌, ◌*◌, ◌/◌, ◌%◌, ◌-◌}
+use Prim.Native.Nat.{ℕ, ◌+◌, ◌*◌, ◌/◌, ◌%◌}
 use native.Mathlib.Omega.{arith}
-use lib.ListN.{length, get_or, length-set}
+use lib.ListN.{get_or, length-set}
 use Rattle.xor.specs.Lists.{at}
-use Rattle.xor.proofs.WriteLaws.{over, over_none, over_more, over_all}
+use Rattle.xor.proofs.WriteLaws.{over_none, over_more, over_all}
 use Rattle.gf256.specs.declared.Direction.{Direction}
 use Rattle.cipher.specs.Fips197.{cell, state}
 use Rattle.linear.specs.Steps.{turn_of}

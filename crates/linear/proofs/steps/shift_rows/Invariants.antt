@@ -1,15 +1,12 @@
 -- `linear::steps::shift_rows` meets its contract. Assumes nothing.
 use mathlib.Core.List.{List}
-use mathlib.Core.Path.{◌≡◌, refl, ap₂, ◌∙◌}
-use Prim.Native.Nat.{ℕ, ◌≤◌, ◌+◌, ◌*◌, ◌/◌, ◌%◌, ◌-◌}
-use native.Mathlib.Omega.{arith}
-use lib.ListN.{length, get_or, length-set}
-use Rattle.xor.specs.Lists.{at}
-use Rattle.xor.proofs.WriteLaws.{over, over_none, over_more, over_all}
+use mathlib.Core.Path.{◌≡◌}
+use Prim.Native.Nat.{ℕ, ◌≤◌, ◌+◌, ◌/◌, ◌%◌, ◌-◌}
+use lib.ListN.{length}
+use Rattle.xor.proofs.WriteLaws.{over}
 use Rattle.gf256.specs.declared.Direction.{Direction}
-use Rattle.cipher.specs.Fips197.{cell, state}
+use Rattle.cipher.specs.Fips197.{cell}
 use Rattle.linear.specs.Steps.{turn_of}
-use Rattle.linear.proofs.StepLaws.{rows_turned}
 use Rattle.linear.proofs.steps.shift_rows.Given as goal
 
 -- byte k of the new state

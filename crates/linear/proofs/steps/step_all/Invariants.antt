@@ -1,12 +1,9 @@
 -- `linear::steps::step_all` meets its contract. Assumes nothing.
-use mathlib.Core.Path.{◌≡◌, refl}
-use Prim.Native.Nat.{suc, ◌≤◌, ◌+◌, ◌*◌, ◌-◌}
-use native.Mathlib.Omega.{arith}
+use mathlib.Core.Path.{◌≡◌}
+use Prim.Native.Nat.{suc, ◌≤◌, ◌-◌}
 use lib.ListN.{length}
 use Rattle.linear.specs.Steps.{stepped}
-use Rattle.linear.proofs.StepLaws.{stepped-length}
-use Rattle.buffers.proofs.ShareLaws.{Done, done_none, done_more, done-map}
-use borrow.Author.Rules.{rules}
+use Rattle.buffers.proofs.ShareLaws.{Done}
 use Rattle.linear.proofs.steps.step_all.Given as goal
 
 abbrev pub invariant-loop-i : goal.invariant-loop-i

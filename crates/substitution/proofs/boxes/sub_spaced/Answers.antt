@@ -1,10 +1,10 @@
 -- `substitution::boxes::sub_spaced` meets its contract. Assumes nothing.
 use mathlib.Core.Path.{◌≡◌}
-use Prim.Native.Nat.{◌+◌, ◌*◌, ◌≤◌, ◌-◌}
+use Prim.Native.Nat.{◌+◌, ◌*◌}
 use native.Mathlib.Omega.{arith}
 use Rattle.xor.proofs.WriteLaws.{length-part_rest}
 use Rattle.cipher.proofs.CipherLaws.{sub_at-shared}
-use Rattle.buffers.proofs.BufferLaws.{Buffered, buffered_start, buffered_room, buffered_more, buffered_taken, buffered_done}
+use Rattle.buffers.proofs.BufferLaws.{buffered_start, buffered_room, buffered_more, buffered_taken, buffered_done}
 use Rattle.substitution.proofs.SubLaws.{spaced_within, spaced-count, four-boxes}
 use borrow.Author.Rules.{rules}
 use Rattle.substitution.proofs.boxes.sub_spaced.Goals as goal

@@ -1,10 +1,10 @@
 -- `substitution::bytes::gather` meets its contract. Assumes nothing.
-use mathlib.Core.Path.{◌≡◌, refl}
-use Prim.Native.Nat.{suc, ◌≤◌, ◌+◌, ◌*◌, ◌-◌}
+use mathlib.Core.Path.{refl}
+use Prim.Native.Nat.{suc}
 use native.Mathlib.Omega.{arith}
-use lib.ListN.{length, length-set}
+use lib.ListN.{length-set}
 use Rattle.xor.specs.Lists.{at}
-use Rattle.xor.proofs.WriteLaws.{over, over_none, over_more}
+use Rattle.xor.proofs.WriteLaws.{over_none, over_more}
 use Rattle.buffers.proofs.PartLaws.{place_lt, gathered}
 use Rattle.substitution.proofs.bytes.gather.Goals as goal
 

@@ -1,11 +1,9 @@
 -- `substitution::bytes::gather` meets its contract. Assumes nothing.
-use mathlib.Core.Path.{◌≡◌, refl}
+use mathlib.Core.Path.{◌≡◌}
 use Prim.Native.Nat.{suc, ◌≤◌, ◌+◌, ◌*◌, ◌-◌}
-use native.Mathlib.Omega.{arith}
-use lib.ListN.{length, length-set}
+use lib.ListN.{length}
 use Rattle.xor.specs.Lists.{at}
-use Rattle.xor.proofs.WriteLaws.{over, over_none, over_more}
-use Rattle.buffers.proofs.PartLaws.{place_lt, gathered}
+use Rattle.xor.proofs.WriteLaws.{over}
 use Rattle.substitution.proofs.bytes.gather.Given as goal
 
 abbrev pub invariant-loop-i : goal.invariant-loop-i

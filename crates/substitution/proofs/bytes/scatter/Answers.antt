@@ -1,9 +1,9 @@
 -- `substitution::bytes::scatter` meets its contract. Assumes nothing.
-use mathlib.Core.Path.{◌≡◌, refl}
-use Prim.Native.Nat.{suc, ◌≤◌, ◌-◌}
+use mathlib.Core.Path.{refl}
+use Prim.Native.Nat.{suc}
 use native.Mathlib.Omega.{arith}
-use lib.ListN.{length, length-set}
-use Rattle.buffers.proofs.PartLaws.{place_lt, Scattered, scattered_none, scattered_more, scattered_all}
+use lib.ListN.{length-set}
+use Rattle.buffers.proofs.PartLaws.{place_lt, scattered_none, scattered_more, scattered_all}
 use Rattle.substitution.proofs.bytes.scatter.Goals as goal
 
 pub loop-i-init : goal.loop-i-init

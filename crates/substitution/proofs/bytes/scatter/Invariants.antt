@@ -1,9 +1,8 @@
 -- `substitution::bytes::scatter` meets its contract. Assumes nothing.
-use mathlib.Core.Path.{◌≡◌, refl}
+use mathlib.Core.Path.{◌≡◌}
 use Prim.Native.Nat.{suc, ◌≤◌, ◌-◌}
-use native.Mathlib.Omega.{arith}
-use lib.ListN.{length, length-set}
-use Rattle.buffers.proofs.PartLaws.{place_lt, Scattered, scattered_none, scattered_more, scattered_all}
+use lib.ListN.{length}
+use Rattle.buffers.proofs.PartLaws.{Scattered}
 use Rattle.substitution.proofs.bytes.scatter.Given as goal
 
 abbrev pub invariant-loop-i : goal.invariant-loop-i
