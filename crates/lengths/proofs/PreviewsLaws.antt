@@ -5,12 +5,11 @@ use mathlib.Core.List.{List}
 use Prim.Native.Nat.{ℕ, zero, suc, ◌*◌, ◌≤◌, ◌<◌}
 use native.Mathlib.Omega.{arith}
 use borrow.Author.Tests.{eqb-true, ltb-true, lt-ltb, le-ltb}
-use lib.Dec.{ltb}
 use Rattle.outcomes.specs.declared.Refusal.TheVariants.{Key}
 use Rattle.outcomes.specs.declared.Count.{Count}
 use Rattle.outcomes.specs.declared.Answer.{Answer}
 use Rattle.outcomes.specs.declared.Answer.TheVariants.{Taken, Refused}
-use Rattle.outcomes.specs.Outcome.{Test, answered, took, served, reaches}
+use Rattle.outcomes.specs.Outcome.{Test, answered, took, served}
 use Rattle.outcomes.proofs.OutcomeLaws.{Passed, ◌and◌, answered_here, answered_next, answered-taken, served_bounds, reaches_le}
 use Rattle.tape_words.specs.Words.{words_for}
 use Rattle.cipher.specs.Cipher.{schedule_need}

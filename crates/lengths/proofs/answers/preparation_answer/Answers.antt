@@ -2,7 +2,6 @@
 use mathlib.Core.Path.{sym, ap, ◌∙◌, subst}
 use Prim.Native.Nat.{ℕ}
 use borrow.Author.Tests.{eq-eqb, ne_eqb}
-use Rattle.xor.proofs.Tests.{not_true, not_false}
 use Rattle.outcomes.specs.declared.Answer.TheVariants.{Taken}
 use Rattle.outcomes.specs.Outcome.{took, reaches}
 use Rattle.outcomes.proofs.OutcomeLaws.{answered_here, answered_next, answered-none, served_bounds, lt_reaches, le_reaches}

@@ -1,6 +1,5 @@
 -- `lengths::answers::single_answer` meets its contract. Assumes nothing.
 use mathlib.Core.Path.{sym, ◌∙◌, subst}
-use Rattle.xor.proofs.Tests.{not_true, not_false}
 use Rattle.outcomes.proofs.OutcomeLaws.{answered_here, served_bounds}
 use Rattle.cipher.specs.Cipher.{cipher_need}
 use Rattle.lengths.specs.Lengths.{KeySize}

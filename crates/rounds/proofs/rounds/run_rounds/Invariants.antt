@@ -1,14 +1,10 @@
 -- `rounds::rounds::run_rounds` meets its contract. Assumes nothing.
-use mathlib.Core.Path.{◌≡◌, refl, ap, ◌∙◌}
-use Prim.Native.Nat.{suc, ◌≤◌, ◌<◌, ◌+◌, ◌*◌, ◌-◌}
-use native.Mathlib.Omega.{arith}
-use Rattle.shares.specs.Strings.{parts, laid}
+use mathlib.Core.Path.{◌≡◌}
+use Prim.Native.Nat.{suc, ◌≤◌, ◌+◌, ◌*◌, ◌-◌}
+use Rattle.shares.specs.Strings.{parts}
 use Rattle.tape_words.specs.Words.{bytes_of}
-use Rattle.tape_words.proofs.WordsLaws.{length-bytes, length-bytes_rest}
-use Rattle.cipher.proofs.DrawingLoops.{round_loop, rounds-whole, rounds-whole-need}
-use Rattle.buffers.proofs.BufferLaws.{Buffered, buffered_start, buffered_room, buffered_words, buffered_taken, buffered_done}
-use Rattle.rounds.proofs.BlockLaws.{rounds_bound, round_keeps, round-made}
-use borrow.Author.Rules.{rules}
+use Rattle.cipher.proofs.DrawingLoops.{round_loop}
+use Rattle.buffers.proofs.BufferLaws.{Buffered}
 use Rattle.rounds.proofs.rounds.run_rounds.Given as goal
 
 abbrev pub invariant-loop-i : goal.invariant-loop-i

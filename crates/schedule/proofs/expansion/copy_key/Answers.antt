@@ -1,11 +1,11 @@
 -- `schedule::expansion::copy_key` meets its contract. Assumes nothing.
 use mathlib.Core.Path.{◌≡◌, refl, ap, ◌∙◌}
-use Prim.Native.Nat.{ℕ, suc, ◌≤◌, ◌+◌, ◌*◌, ◌-◌}
+use Prim.Native.Nat.{ℕ, suc, ◌+◌, ◌*◌, ◌-◌}
 use native.Mathlib.Omega.{arith}
 use lib.ListN.{length, take, drop}
 use Rattle.xor.specs.Writes.{front}
 use Rattle.shares.proofs.StringsLaws.{part-fits}
-use Rattle.buffers.proofs.ShareLaws.{Done, done_none, done_more, done_all}
+use Rattle.buffers.proofs.ShareLaws.{done_none, done_more, done_all}
 use Rattle.schedule.proofs.KeyLaws.{with_share, with_share_length, key_copied}
 use borrow.Author.Rules.{rules}
 use Rattle.schedule.proofs.expansion.copy_key.Goals as goal

@@ -1,13 +1,9 @@
 -- `schedule::expansion::copy_key` meets its contract. Assumes nothing.
-use mathlib.Core.Path.{◌≡◌, refl, ap, ◌∙◌}
-use Prim.Native.Nat.{ℕ, suc, ◌≤◌, ◌+◌, ◌*◌, ◌-◌}
-use native.Mathlib.Omega.{arith}
-use lib.ListN.{length, take, drop}
-use Rattle.xor.specs.Writes.{front}
-use Rattle.shares.proofs.StringsLaws.{part-fits}
-use Rattle.buffers.proofs.ShareLaws.{Done, done_none, done_more, done_all}
-use Rattle.schedule.proofs.KeyLaws.{with_share, with_share_length, key_copied}
-use borrow.Author.Rules.{rules}
+use mathlib.Core.Path.{◌≡◌}
+use Prim.Native.Nat.{suc, ◌≤◌, ◌-◌}
+use lib.ListN.{length}
+use Rattle.buffers.proofs.ShareLaws.{Done}
+use Rattle.schedule.proofs.KeyLaws.{with_share}
 use Rattle.schedule.proofs.expansion.copy_key.Given as goal
 
 abbrev pub invariant-loop-i : goal.invariant-loop-i

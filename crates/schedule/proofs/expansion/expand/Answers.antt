@@ -1,11 +1,9 @@
 -- `schedule::expansion::expand` meets its contract. Assumes nothing.
 use mathlib.Core.Path.{◌≡◌, refl, sym, ap, ◌∙◌}
-use Prim.Native.Nat.{ℕ, suc, ◌≤◌, ◌<◌, ◌*◌, ◌-◌}
+use Prim.Native.Nat.{ℕ, ◌<◌}
 use native.Mathlib.Omega.{arith}
-use lib.ListN.{length}
-use Rattle.tape_words.specs.Words.{bytes_of}
 use Rattle.tape_words.proofs.WordsLaws.{length-bytes, length-bytes_rest}
-use Rattle.cipher.proofs.DrawingLaws.{Drawing, drawing_start, drawing_room, drawing_words, drawing_taken, drawing_done}
+use Rattle.cipher.proofs.DrawingLaws.{drawing_start, drawing_room, drawing_words, drawing_taken, drawing_done}
 use Rattle.cipher.proofs.DrawingLoops.{word_loop}
 use Rattle.schedule.specs.Stored.{written}
 use Rattle.schedule.proofs.WrittenLaws.{word_stored-long, word_stored_next}

@@ -1,15 +1,11 @@
 -- `schedule::expansion::expand` meets its contract. Assumes nothing.
-use mathlib.Core.Path.{◌≡◌, refl, sym, ap, ◌∙◌}
-use Prim.Native.Nat.{ℕ, suc, ◌≤◌, ◌<◌, ◌*◌, ◌-◌}
-use native.Mathlib.Omega.{arith}
+use mathlib.Core.Path.{◌≡◌}
+use Prim.Native.Nat.{suc, ◌≤◌, ◌*◌, ◌-◌}
 use lib.ListN.{length}
 use Rattle.tape_words.specs.Words.{bytes_of}
-use Rattle.tape_words.proofs.WordsLaws.{length-bytes, length-bytes_rest}
-use Rattle.cipher.proofs.DrawingLaws.{Drawing, drawing_start, drawing_room, drawing_words, drawing_taken, drawing_done}
+use Rattle.cipher.proofs.DrawingLaws.{Drawing}
 use Rattle.cipher.proofs.DrawingLoops.{word_loop}
 use Rattle.schedule.specs.Stored.{written}
-use Rattle.schedule.proofs.WrittenLaws.{word_stored-long, word_stored_next}
-use borrow.Author.Rules.{rules}
 use Rattle.schedule.proofs.expansion.expand.Given as goal
 
 abbrev pub invariant-loop-i : goal.invariant-loop-i

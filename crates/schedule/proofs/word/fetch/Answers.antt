@@ -1,14 +1,12 @@
 -- `schedule::word::fetch` meets its contract. Assumes nothing.
 use mathlib.Core.Path.{◌≡◌, refl, ap, ◌∙◌}
-use mathlib.Core.List.{List}
-use Prim.Native.Nat.{ℕ, suc, ◌≤◌, ◌+◌, ◌*◌, ◌-◌}
+use Prim.Native.Nat.{suc, ◌+◌, ◌*◌, ◌-◌}
 use native.Mathlib.Omega.{arith}
 use lib.ListN.{length, take, drop, length-take, length-drop}
 use Rattle.shares.specs.Strings.{laid}
 use Rattle.schedule.proofs.WordLaws.{word_copied}
-use Rattle.cipher.specs.Fips197.{word}
 use Rattle.buffers.proofs.PartLaws.{place_lt}
-use Rattle.buffers.proofs.ShareLaws.{Done, done_none, done_more, done_all}
+use Rattle.buffers.proofs.ShareLaws.{done_none, done_more, done_all}
 use Rattle.buffers.proofs.SecondLaws.{word-all, word-long}
 use borrow.Author.Rules.{rules}
 use Rattle.schedule.proofs.word.fetch.Invariants.{fetched}

@@ -1,16 +1,10 @@
 -- `schedule::word::fetch` meets its contract. Assumes nothing.
-use mathlib.Core.Path.{◌≡◌, refl, ap, ◌∙◌}
+use mathlib.Core.Path.{◌≡◌}
 use mathlib.Core.List.{List}
-use Prim.Native.Nat.{ℕ, suc, ◌≤◌, ◌+◌, ◌*◌, ◌-◌}
-use native.Mathlib.Omega.{arith}
-use lib.ListN.{length, take, drop, length-take, length-drop}
-use Rattle.shares.specs.Strings.{laid}
-use Rattle.schedule.proofs.WordLaws.{word_copied}
+use Prim.Native.Nat.{ℕ, suc, ◌≤◌, ◌*◌, ◌-◌}
+use lib.ListN.{length, take, drop}
 use Rattle.cipher.specs.Fips197.{word}
-use Rattle.buffers.proofs.PartLaws.{place_lt}
-use Rattle.buffers.proofs.ShareLaws.{Done, done_none, done_more, done_all}
-use Rattle.buffers.proofs.SecondLaws.{word-all, word-long}
-use borrow.Author.Rules.{rules}
+use Rattle.buffers.proofs.ShareLaws.{Done}
 use Rattle.schedule.proofs.word.fetch.Given as goal
 
 -- word w of share i, whatever stood in its place

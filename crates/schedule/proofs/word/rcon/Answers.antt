@@ -1,6 +1,6 @@
 -- `schedule::word::rcon` meets its contract. Assumes nothing.
 use mathlib.Core.Path.{◌≡◌, refl, ap, ◌∙◌}
-use Prim.Native.Nat.{ℕ, ◌≤◌, ◌-◌}
+use Prim.Native.Nat.{ℕ, ◌-◌}
 use native.Mathlib.Omega.{arith}
 use Rattle.gf256.specs.Field.{power}
 use Rattle.schedule.proofs.WordLaws.{doubled_again}

@@ -1,9 +1,7 @@
 -- `schedule::word::rcon` meets its contract. Assumes nothing.
-use mathlib.Core.Path.{◌≡◌, refl, ap, ◌∙◌}
-use Prim.Native.Nat.{ℕ, ◌≤◌, ◌-◌}
-use native.Mathlib.Omega.{arith}
+use mathlib.Core.Path.{◌≡◌}
+use Prim.Native.Nat.{◌≤◌, ◌-◌}
 use Rattle.gf256.specs.Field.{power}
-use Rattle.schedule.proofs.WordLaws.{doubled_again}
 use Rattle.schedule.proofs.word.rcon.Given as goal
 
 abbrev pub invariant-loop-i : goal.invariant-loop-i

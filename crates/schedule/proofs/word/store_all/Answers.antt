@@ -1,11 +1,10 @@
 -- `schedule::word::store_all` meets its contract. Assumes nothing.
-use mathlib.Core.Path.{◌≡◌, refl, ◌∙◌}
-use Prim.Native.Nat.{suc, ◌≤◌, ◌+◌, ◌*◌, ◌-◌}
+use mathlib.Core.Path.{refl, ◌∙◌}
+use Prim.Native.Nat.{suc, ◌+◌, ◌*◌, ◌-◌}
 use native.Mathlib.Omega.{arith}
-use lib.ListN.{length}
 use Rattle.schedule.specs.Stored.{stored}
 use Rattle.buffers.proofs.PartLaws.{place_lt}
-use Rattle.buffers.proofs.ShareLaws.{Done, done_none, done_more, done_all}
+use Rattle.buffers.proofs.ShareLaws.{done_none, done_more, done_all}
 use Rattle.schedule.proofs.WordLaws.{stored-part}
 use Rattle.schedule.proofs.WrittenLaws.{stored-length}
 use borrow.Author.Rules.{rules}

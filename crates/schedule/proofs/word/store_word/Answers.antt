@@ -1,9 +1,8 @@
 -- `schedule::word::store_word` meets its contract. Assumes nothing.
-use mathlib.Core.Path.{◌≡◌, refl}
-use Prim.Native.Nat.{◌≤◌, ◌-◌}
+use mathlib.Core.Path.{refl}
 use native.Mathlib.Omega.{arith}
-use lib.ListN.{length, length-set}
-use Rattle.schedule.proofs.WordLaws.{Storing, storing_start, storing_more, storing_done}
+use lib.ListN.{length-set}
+use Rattle.schedule.proofs.WordLaws.{storing_start, storing_more, storing_done}
 use Rattle.schedule.proofs.word.store_word.Goals as goal
 
 pub loop-b-init : goal.loop-b-init

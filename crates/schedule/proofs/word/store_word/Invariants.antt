@@ -1,9 +1,8 @@
 -- `schedule::word::store_word` meets its contract. Assumes nothing.
-use mathlib.Core.Path.{◌≡◌, refl}
+use mathlib.Core.Path.{◌≡◌}
 use Prim.Native.Nat.{◌≤◌, ◌-◌}
-use native.Mathlib.Omega.{arith}
-use lib.ListN.{length, length-set}
-use Rattle.schedule.proofs.WordLaws.{Storing, storing_start, storing_more, storing_done}
+use lib.ListN.{length}
+use Rattle.schedule.proofs.WordLaws.{Storing}
 use Rattle.schedule.proofs.word.store_word.Given as goal
 
 abbrev pub invariant-loop-b : goal.invariant-loop-b
