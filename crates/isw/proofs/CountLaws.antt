@@ -130,7 +130,8 @@ sums_last m (suc k) f =
     total_cong m _ _ (λ u h. sums_last m k (λ vs. f (u ∷ vs))) ∙ total_swap m m (λ u v. sums m k (λ vs. f (u ∷ vs ++ (v ∷ []))))
 
 -- THE SHIFT LAW: each list moved by a XOR, place by place
-pub sums-xors : (w k : ℕ) (es : List ℕ) (f : List ℕ → ℕ) → length es ≤ k → Below (2 ^ w) es → sums (2 ^ w) k f ≡ sums (2 ^ w) k (λ vs. f (xors vs es))
+pub sums-xors : (w k : ℕ) (es : List ℕ) (f : List ℕ → ℕ) → length es ≤ k → Below (2 ^ w) es
+    → sums (2 ^ w) k f ≡ sums (2 ^ w) k (λ vs. f (xors vs es))
 unfolding sums xors
 sums-xors w k [] f l b = sums_cong (2 ^ w) k _ _ (λ vs e h. ap f (sym (xors_nil_r vs)))
 sums-xors w zero (e ∷ es) f l b = absurd (omega arith)

@@ -151,7 +151,8 @@ sheet_agrees op d a b ts la lb =
     (map-tab f left n ∙ ap (tab (at a)) (sym la) ∙ tab-at a)
     (map-tab f right n ∙ ap (tab (at b)) (sym lb) ∙ tab-at b)
     (map_runs f (pair_row n) n ∙ runs_zero _ n ∙ pairs_are op d a b ts 0 n ∙ ap (λ (m : ℕ). D.all_pairs op m 0 m a b ts) (sym la))
-    (map_runs f (P.row_places n) n ∙ runs_zero _ n ∙ all_sums_are op d a b ts 0 n (omega arith) ∙ ap (λ (m : ℕ). D.all_sums op m 0 m a b ts) (sym la))
+    (map_runs f (P.row_places n) n ∙ runs_zero _ n ∙ all_sums_are op d a b ts 0 n (omega arith)
+    ∙ ap (λ (m : ℕ). D.all_sums op m 0 m a b ts) (sym la))
 
 -- ---- numbers
 
@@ -208,7 +209,8 @@ unfolding choice_length chosen factor D.shown D.factor
 shown_agrees op d x y cs e =
     let two : 2 * d ≡ d + d = omega arith in
     let la : length (factor x (take d cs)) ≡ suc d = unfold factor in ap suc (length-take d cs ∙ omega arith) in
-    let lb : length (factor y (take d (drop d cs))) ≡ suc d = unfold factor in ap suc (length-take d (drop d cs) ∙ omega (arith, length-drop d cs)) in
+    let taken : length (take d (drop d cs)) ≡ d = length-take d (drop d cs) ∙ omega (arith, length-drop d cs) in
+    let lb : length (factor y (take d (drop d cs))) ≡ suc d = unfold factor in ap suc taken in
     rw two (sheet_agrees op d (factor x (take d cs)) (factor y (take d (drop d cs))) (drop (d + d) cs) la lb)
 
 pub readings_agree : (op : ℕ → ℕ → ℕ) (w d x y : ℕ) (ps rs : List ℕ) → length rs ≡ length ps
@@ -225,5 +227,5 @@ unfolding H.Hides D.Hides
 hides_document03 op w h d x y v z ps rs low high hx hy hv hz few inside long small =
     let counted : D.all_below (P.place_count d) ps ≡ true = rw (place_count_agrees d) inside in
     sym (readings_agree op w d x y ps rs long)
-    ∙ h d ps rs x y v z few (below (P.place_count d) ps (true_T counted)) hx hy hv hz
+    ∙ h d ps rs x y v z (omega (arith, few)) (below (P.place_count d) ps (true_T counted)) hx hy hv hz
     ∙ readings_agree op w d v z ps rs long

@@ -1,6 +1,7 @@
 -- Document 03's masked product, its places and its hiding rule, copied with the operation as a parameter and XOR as `bit_xor`, to be compared
 -- with `Place` and `Hiding`. `Document03Laws` proves that they are the same. Assumes nothing: these are definitions.
-use Rattle.std.specs.Prelude.{◌≡◌, Bool, true, cond, ◌&&◌, List, [], ◌∷◌, ◌++◌, ℕ, zero, suc, ◌+◌, ◌-◌, ◌*◌, ◌/◌, ◌≤◌, ◌<◌, ltb, eqb, length, take, drop}
+use Rattle.std.specs.Prelude.{◌≡◌, Bool, true, cond, ◌&&◌, List, [], ◌∷◌, ◌++◌, ℕ, zero, suc, ◌+◌, ◌-◌, ◌*◌, ◌/◌}
+use Rattle.std.specs.Prelude.{◌≤◌, ◌<◌, ltb, eqb, length, take, drop}
 use Rattle.std.specs.Int.Bits.{bit_xor}
 use Rattle.xor.specs.Lists.{at}
 use Rattle.xor.specs.Sums.{joined}
