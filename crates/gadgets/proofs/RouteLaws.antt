@@ -104,7 +104,8 @@ running_moved s e m f f' at-m zero l off-m = absurd (omega arith)
 running_moved s e m f f' at-m (suc k) l off-m =
     go (ℕ_discrete k m) (λ u. running_moved s e m f f' at-m k u (λ j v. off-m j (omega arith)))
   where
-    go : Dec (k ≡ m) → (m < k → running s f k ≡ running (bit_xor s e) f' k) → bit_xor (running s f k) (f k) ≡ bit_xor (running (bit_xor s e) f' k) (f' k)
+    go : Dec (k ≡ m) → (m < k → running s f k ≡ running (bit_xor s e) f' k)
+        → bit_xor (running s f k) (f k) ≡ bit_xor (running (bit_xor s e) f' k) (f' k)
     go (yes q) ih =
         sym (ap₂ bit_xor (running_start s e f f' k (λ j u. off-m j (omega arith) (omega arith))) (rw q at-m) ∙ both_in (running s f k) e (f k))
     go (no q) ih = ap₂ bit_xor (ih (omega arith)) (off-m k (omega arith) q)

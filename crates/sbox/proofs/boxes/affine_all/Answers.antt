@@ -1,10 +1,8 @@
 -- `sbox::boxes::affine_all` meets its contract. Assumes nothing.
-use mathlib.Core.Path.{◌≡◌, refl}
-use Prim.Native.Nat.{ℕ, ◌≤◌, ◌<◌, ◌-◌}
+use mathlib.Core.Path.{refl}
 use native.Mathlib.Omega.{arith}
-use lib.ListN.{length, get_or, length-set}
-use Rattle.gf256.specs.Directions.{affine_of}
-use Rattle.power254.proofs.EachLaws.{each, each_none, each_named, each_all, numbered}
+use lib.ListN.{length-set}
+use Rattle.power254.proofs.EachLaws.{each_none, each_named, each_all, numbered}
 use borrow.Author.Rules.{rules}
 use Rattle.sbox.proofs.boxes.affine_all.Goals as goal
 

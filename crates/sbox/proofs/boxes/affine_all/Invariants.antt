@@ -1,11 +1,9 @@
 -- `sbox::boxes::affine_all` meets its contract. Assumes nothing.
-use mathlib.Core.Path.{◌≡◌, refl}
+use mathlib.Core.Path.{◌≡◌}
 use Prim.Native.Nat.{ℕ, ◌≤◌, ◌<◌, ◌-◌}
-use native.Mathlib.Omega.{arith}
-use lib.ListN.{length, get_or, length-set}
+use lib.ListN.{length, get_or}
 use Rattle.gf256.specs.Directions.{affine_of}
-use Rattle.power254.proofs.EachLaws.{each, each_none, each_named, each_all, numbered}
-use borrow.Author.Rules.{rules}
+use Rattle.power254.proofs.EachLaws.{each}
 use Rattle.sbox.proofs.boxes.affine_all.Given as goal
 
 abbrev pub invariant-loop-k : goal.invariant-loop-k
