@@ -1,6 +1,6 @@
--- What document 03 states of shares that join, in its own words: the product, its refresh, the S-box, the cipher and splitting; S-box and cipher with
--- the refresh of document 02, wish 7. It compares these two with its own at order 0; both sides join to what FIPS 197 computes. Of its bounds on bytes, order and tape the proofs use one:
--- the tape of a split. Assumes nothing.
+-- What document 03 states of shares that join, in its own words: the product, its refresh, the S-box, the cipher and splitting; S-box and cipher
+-- with the refresh of document 02, wish 7. It compares these two with its own at order 0; both sides join to what FIPS 197 computes. Of its bounds
+-- on bytes, order and tape the proofs use one: the tape of a split. Assumes nothing.
 use mathlib.Core.Path.{◌≡◌, refl, sym, ap, ap₂, ◌∙◌, subst}
 use mathlib.Core.Bool.{true, ◌&&◌}
 use mathlib.Core.List.{List, [], ◌∷◌, ◌++◌, map}
@@ -145,7 +145,8 @@ module _ (rf : D.Refresh) (nk : ℕ) (size : D.key_words nk ≡ true) where
       → D.joined_all (D.encrypted rf nk d (bytes (4 * nk) k) (bytes 16 x) ts) ≡ cipher nk (joined_string k) (joined_string x)
   turned_joins ts same hk hx =
       let some = some_words nk size in
-      ap D.joined_all (encrypted_turned rf same nk ts size hk hx) ∙ joined_all_turned (encrypted-shared nk ts some hk hx) ∙ cipher_joins nk ts some hk hx
+      ap D.joined_all (encrypted_turned rf same nk ts size hk hx) ∙ joined_all_turned (encrypted-shared nk ts some hk hx)
+      ∙ cipher_joins nk ts some hk hx
 
   pub cipher_joins_plain : (d : ℕ) (k x : D.Shared) (ts : List ℕ) → Same rf d → All (λ b. length b ≡ suc d) k → All (λ b. length b ≡ suc d) x
       → length k ≡ 4 * nk → length x ≡ 16 → D.joined_all (D.encrypted rf nk d k x ts) ≡ cipher nk (D.joined_all k) (D.joined_all x)

@@ -1,5 +1,5 @@
--- Document 03's S-box and cipher over shares are ours, with the refresh of document 02, wish 7: share by share, with the same counts of tape bytes; at
--- order 1 with its own refresh too. Its shared string is a list of shared bytes, ours a list of shares, so the two are compared transposed
+-- Document 03's S-box and cipher over shares are ours, with the refresh of document 02, wish 7: share by share, with the same counts of tape bytes;
+-- at order 1 with its own refresh too. Its shared string is a list of shared bytes, ours a list of shares, so the two are compared transposed
 -- (`TurnedLaws`). Assumes nothing.
 use mathlib.Core.Path.{◌≡◌, refl, sym, ap, ap₂, ◌∙◌, subst}
 use mathlib.Core.Bool.{Bool, true, false, cond, ◌&&◌, ◌||◌}

@@ -59,7 +59,7 @@ rounds-inverse : (nr left i d : ℕ) (ks s : Shares) (ts : List ℕ) → i + lef
 unfolding rounds_of masked_inv_rounds
 rounds-inverse nr zero i d ks s ts e =
     let r : nr - i ≡ 0 = omega arith in
-    rw (eq-eqb i nr (omega arith), r) refl
+    rw (eq-eqb i nr (omega arith)) (ap (λ (k : ℕ). round_of Inverse true d k ks s ts) r)
 rounds-inverse nr (suc left) i d ks s ts e =
     let r : nr - i ≡ suc left = omega arith in
     let next = masked_inv_round d (suc left) ks s ts in

@@ -44,7 +44,8 @@ column-put-same k [] g e hs = absurd (omega arith)
 column-put-same k (v ∷ []) g e (alone {s = s} h) = ap (λ (x : ℕ). x ∷ []) (get_or-set_same s k v 0 (omega arith))
 column-put-same k (v ∷ w ∷ vs) g e (alone h) = absurd (omega arith)
 column-put-same k (v ∷ []) g e (more h hs) = absurd (omega arith)
-column-put-same k (v ∷ w ∷ vs) g e (more {s = s} h hs) = ap₂ ◌∷◌ (get_or-set_same s k v 0 (omega arith)) (column-put-same k (w ∷ vs) g (omega arith) hs)
+column-put-same k (v ∷ w ∷ vs) g e (more {s = s} h hs) =
+    ap₂ ◌∷◌ (get_or-set_same s k v 0 (omega arith)) (column-put-same k (w ∷ vs) g (omega arith) hs)
 
 column-put-other : (ss : Shares) (j k : ℕ) (vs : List ℕ) → j ≢ k → column j (put ss k vs) ≡ column j ss
 unfolding column put at
@@ -157,7 +158,8 @@ shifted_turned ss = bytes-map 16 shift_rows (λ k s. cell s (k % 4) (k / 4 + k %
 mixed_is : (a b c e : ℕ) → b < 256 → bit_xor (doubled a) (bit_xor (bit_xor (doubled b) b) (bit_xor c e)) ≡ mixed a b c e
 unfolding mixed
 mixed_is a b c e h =
-    xor_regroup (doubled a) (bit_xor (doubled b) b) c e ∙ sym (ap₂ (λ (x y : ℕ). bit_xor (bit_xor (bit_xor x y) c) e) (times_two a) (times_three b h))
+    xor_regroup (doubled a) (bit_xor (doubled b) b) c e
+    ∙ sym (ap₂ (λ (x y : ℕ). bit_xor (bit_xor (bit_xor x y) c) e) (times_two a) (times_three b h))
 
 column-mixed : (i j k m : ℕ) (ss : Shares) → Below 256 (column j ss)
     → D.mixed_byte (column i ss) (column j ss) (column k ss) (column m ss) ≡ map (λ s. mixed (at s i) (at s j) (at s k) (at s m)) ss

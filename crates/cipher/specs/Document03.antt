@@ -2,7 +2,8 @@
 -- `Document03Laws` proves that they agree, `Document03Joins` what it states of them: the types at the end. Its product is that of isw's
 -- `Document03`. A shared string is a list of shared bytes there, and a list of shares here. Its refresh is the short one, which document 02, wish 7,
 -- replaced: so from power 254 upwards the refresh is a parameter, and nothing else differs. Assumes nothing: these are definitions.
-use Rattle.std.specs.Prelude.{◌≡◌, Bool, true, cond, ◌&&◌, ◌||◌, List, [], ◌∷◌, ◌++◌, ℕ, zero, suc, ◌+◌, ◌*◌, ◌-◌, ◌/◌, ◌%◌, ◌≤◌, ltb, eqb, length, get_or, take, drop}
+use Rattle.std.specs.Prelude.{◌≡◌, Bool, true, cond, ◌&&◌, ◌||◌, List, [], ◌∷◌, ◌++◌, ℕ, zero, suc, ◌+◌, ◌*◌, ◌-◌, ◌/◌, ◌%◌}
+use Rattle.std.specs.Prelude.{◌≤◌, ltb, eqb, length, get_or, take, drop}
 use Rattle.std.specs.Int.Bits.{bit_xor}
 use Rattle.xor.specs.Lists.{at}
 use Rattle.xor.specs.Sums.{joined}

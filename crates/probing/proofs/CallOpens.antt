@@ -1,5 +1,5 @@
--- A CALL WHOSE RESULT IS OPENED hides all but its result: no list of at most d places of the call and of the refreshes before opening tells two pairs
--- of key and block with one result apart, though all shares of the result are shown. Assumes nothing.
+-- A CALL WHOSE RESULT IS OPENED hides all but its result: no list of at most d places of the call and of the refreshes before opening tells two
+-- pairs of key and block with one result apart, though all shares of the result are shown. Assumes nothing.
 use mathlib.Core.Path.{◌≡◌, refl, sym, ap, ap₂, ◌∙◌}
 use mathlib.Core.Logic.{◌≢◌}
 use mathlib.Core.Bool.{Bool, ◌&&◌}

@@ -135,7 +135,7 @@ module _ (w : Direction) (nk d k m n : ℕ) where
   chosen-bytes : (key block ws : List ℕ) → split_chosen w nk d k m key block ws ≡ in_three key block (bytes_of ws)
   unfolding split_chosen
   chosen-bytes key block ws =
-      rw (bytes_take k ws, bytes_take m (drop k ws), bytes_drop m (drop k ws), bytes_drop k ws) refl
+      rw (← bytes_drop k ws, ← bytes_drop m (drop k ws), ← bytes_take m (drop k ws), ← bytes_take k ws) refl
 
   module _ (enough_k : words_for (split_need d (4 * nk)) ≤ k) (enough_m : words_for (split_need d 16) ≤ m)
       (enough_n : words_for (cipher_need nk d) ≤ n) (ps : List ℕ) (few : length ps ≤ d) (below : Below (call_count w nk d) ps)
