@@ -79,8 +79,8 @@
  *   DOKKUMEL_STACK_ENCRYPT   encryption and decryption by a single call
  *   DOKKUMEL_STACK_PREPARE   preparation, and encryption from prepared keys
  *
- * LINKING. libdokkumel_c.a is for x86-64, and needs memcpy() and memset()
- * only. An object that was built with the header of another version does not
+ * LINKING. libdokkumel_c.a is for x86-64-v2, and needs memcpy() and
+ * memset() only. An object that was built with the header of another version does not
  * link with it.
  */
 
