@@ -12,7 +12,7 @@ use Rattle.gf256.specs.declared.Direction.{Direction}
 use Rattle.gf256.specs.declared.Direction.TheVariants.{Forward, Inverse}
 use Rattle.outcomes.specs.declared.Refusal.TheVariants.{Order, Key, Input, Output, Tape}
 use Rattle.outcomes.specs.declared.Count.{Count}
-use Rattle.outcomes.specs.declared.Answer.TheVariants.{Taken, Refused}
+use Rattle.std.specs.Prelude.{Ok, Err}
 use Rattle.outcomes.specs.Outcome.{done, took, answered, ended, settled, served, reaches, share_length}
 use Rattle.shares.specs.Strings.{joined_string, parts}
 use Rattle.shares.specs.Calls.{join_outcome, unused}
@@ -162,10 +162,10 @@ block_after n nk d x t o need q made h = rw short (go (served d) (ltb 0 nk) (eqb
 
     go : (u y i r e : Bool)
         → ended (cond u
-        (cond y (cond i (cond r (cond e (Taken (took (n + need))) (Refused Tape)) (Refused Output)) (Refused Input)) (Refused Key)) (Refused Order)) q
+        (cond y (cond i (cond r (cond e (Ok (took (n + need))) (Err Tape)) (Err Output)) (Err Input)) (Err Key)) (Err Order)) q
         made
         ≡ after n (ended
-        (cond u (cond y (cond i (cond r (cond e (Taken (took need)) (Refused Tape)) (Refused Output)) (Refused Input)) (Refused Key)) (Refused Order))
+        (cond u (cond y (cond i (cond r (cond e (Ok (took need)) (Err Tape)) (Err Output)) (Err Input)) (Err Key)) (Err Order))
         q made)
     go false y i r e = refl
     go true false i r e = refl

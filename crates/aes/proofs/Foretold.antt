@@ -9,8 +9,8 @@ use lib.ListN.{length}
 use borrow.Author.Tests.{lt-ltb, eq-eqb}
 use Rattle.outcomes.specs.declared.Refusal.TheVariants.{Tape}
 use Rattle.outcomes.specs.declared.Count.{Count}
-use Rattle.outcomes.specs.declared.Answer.{Answer}
-use Rattle.outcomes.specs.declared.Answer.TheVariants.{Taken, Refused}
+use Rattle.outcomes.specs.Outcome.{Answer}
+use Rattle.std.specs.Prelude.{Ok, Err}
 use Rattle.outcomes.specs.Outcome.{Outcome, done, refused, outcome, Test, test, took, answered, ended, settled, served, reaches}
 use Rattle.outcomes.proofs.OutcomeLaws.{outcome_answer, settled_same, settled-past}
 use Rattle.tape_words.specs.Words.{words_for}
@@ -51,8 +51,8 @@ told : (a b : Answer) → outcome a [] ≡ outcome b [] → a ≡ b
 told a b e = outcome_answer a b [] [] [] (e ∙ unwritten b)
   where
     unwritten : (b : Answer) → outcome b [] ≡ ended b [] []
-    unwritten (Taken k) = refl
-    unwritten (Refused r) = refl
+    unwritten (Ok k) = refl
+    unwritten (Err r) = refl
 
 -- what is foretold from lengths goes by lengths
 foretold_by_length : (p : (order key input tape output : ℕ) → Outcome) (c : (order : ℕ) (key input tape output : List ℕ) → Outcome)
@@ -82,7 +82,7 @@ by_tape : (t n : ℕ) → settled (test Tape (reaches t n) ∷ []) (took n) [] [
 unfolding settled answered
 by_tape t n = go (ltb t n)
   where
-    go : (b : Bool) → ended (cond (not b) (Taken (took n)) (Refused Tape)) [] [] ≡ cond b (refused 5 []) (done (took n) [])
+    go : (b : Bool) → ended (cond (not b) (Ok (took n)) (Err Tape)) [] [] ≡ cond b (refused 5 []) (done (took n) [])
     go true = refl
     go false = refl
 

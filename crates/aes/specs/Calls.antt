@@ -2,7 +2,7 @@
 -- wish 1, for decryption wish 2, and that a tape is words wish 6: the steps draw the bytes of the words, and the needs are rounded up to words.
 -- Assumes nothing: these are definitions.
 use Rattle.std.specs.Prelude.{◌≡◌, List, [], ℕ, ◌+◌, length}
-use Rattle.outcomes.specs.declared.Answer.{Answer}
+use Rattle.outcomes.specs.Outcome.{Answer}
 use Rattle.outcomes.specs.Outcome.{Outcome, done, refused, outcome, took, settled}
 use Rattle.tape_words.specs.Words.{bytes_of, words_for}
 use Rattle.cipher.specs.Cipher.{schedule_need, prepared_laid, encrypted_with_need, encrypted_with_laid, cipher_need, encrypted_laid, decrypted_laid}

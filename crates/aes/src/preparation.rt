@@ -3,7 +3,7 @@ ghost use Rattle.std.specs.Prelude.{◌≡◌};
 ghost use Rattle.outcomes.specs.Outcome.{outcome};
 ghost use Rattle.aes.specs.Calls.{prepare_outcome, encrypt_prepared_outcome};
 
-use gf256::Direction;
+use gf256::{Direction, Tables};
 use lengths::sizes;
 use outcomes::{Answer, Count};
 
@@ -11,15 +11,11 @@ use outcomes::{Answer, Count};
 pub fn prepare(order: usize, key: &[u8], tape: &[u32], output: &mut [u8]) -> Answer
     ensures { outcome result output.new ≡ prepare_outcome order key.now tape.now output.old }
 {
-    let answer = lengths::answers::preparation_answer(order, key.len(), tape.len(), output.len());
-    let Answer::Taken(_) = answer else {
-        return answer;
-    };
+    lengths::answers::preparation_answer(order, key.len(), tape.len(), output.len())?;
     let nk = sizes::key_words(order, key.len());
-    let logs = gf256::logs();
-    let antilogs = gf256::antilogs();
-    Answer::Taken(Count {
-        taken: schedule::expansion::expand_core(&logs, &antilogs, nk, order, key, tape, output),
+    let tables = Tables::new();
+    Ok(Count {
+        taken: schedule::expansion::expand_core(&tables, nk, order, key, tape, output),
     })
 }
 
@@ -34,22 +30,17 @@ pub fn encrypt_prepared(
     ensures { outcome result output.new
         ≡ encrypt_prepared_outcome order prepared.now input.now tape.now output.old }
 {
-    let answer = lengths::answers::prepared_answer(
+    lengths::answers::prepared_answer(
         order,
         prepared.len(),
         input.len(),
         tape.len(),
         output.len(),
-    );
-    let Answer::Taken(_) = answer else {
-        return answer;
-    };
+    )?;
     let nk = sizes::prepared_words(order, prepared.len());
-    let logs = gf256::logs();
-    let antilogs = gf256::antilogs();
+    let tables = Tables::new();
     let taken = rounds::rounds::rounds_core(
-        &logs,
-        &antilogs,
+        &tables,
         Direction::Forward,
         nk,
         order,
@@ -58,5 +49,5 @@ pub fn encrypt_prepared(
         tape,
         output,
     );
-    Answer::Taken(Count { taken: taken })
+    Ok(Count { taken: taken })
 }

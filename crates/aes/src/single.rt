@@ -1,6 +1,5 @@
 // Encryption and decryption of one block over shares by a single call. Document 01, and document 02, wish 2, decide.
 ghost use Rattle.std.specs.Prelude.{◌≡◌, suc, ◌*◌, length};
-ghost use Rattle.gf256.specs.Tables.{Tables};
 ghost use Rattle.tape_words.specs.Words.{bytes_of};
 ghost use Rattle.outcomes.specs.Outcome.{outcome};
 ghost use Rattle.cipher.specs.Fips197.{rounds};
@@ -9,14 +8,13 @@ ghost use Rattle.aes.specs.Calls.{encrypt_outcome, decrypt_outcome};
 ghost use Rattle.aes.specs.Directions.{laid_of, single_outcome};
 ghost use Rattle.aes.specs.Fits.{BlockFits};
 
-use gf256::{Antilogs, Direction, Logs};
+use gf256::{Direction, Tables};
 use lengths::sizes;
 use outcomes::{Answer, Count};
 
 // The key expansion draws first, then the rounds.
 fn block_with(
-    logs: &Logs,
-    antilogs: &Antilogs,
+    tables: &Tables,
     which: Direction,
     nk: usize,
     d: usize,
@@ -26,16 +24,14 @@ fn block_with(
     keys: &mut [u8],
     output: &mut [u8],
 ) -> usize
-    requires { BlockFits nk d key.now input.now (bytes_of tape.now) output.old × (length keys.old ≡ suc d * (16 * suc (rounds nk)))
-        × Tables logs.now antilogs.now }
+    requires { BlockFits nk d key.now input.now (bytes_of tape.now) output.old × (length keys.old ≡ suc d * (16 * suc (rounds nk))) }
     ensures { (4 * result ≡ Cipher.cipher_need nk d)
         × (output.new ≡ laid_of which nk d key.now input.now (bytes_of tape.now)) }
 {
-    let drawn = schedule::expansion::expand_core(logs, antilogs, nk, d, key, tape, keys);
+    let drawn = schedule::expansion::expand_core(tables, nk, d, key, tape, keys);
     drawn
         + rounds::rounds::rounds_core(
-            logs,
-            antilogs,
+            tables,
             which,
             nk,
             d,
@@ -48,8 +44,7 @@ fn block_with(
 
 // A block, with a buffer for the round keys: at most 9 shares of 240 bytes.
 fn block_core(
-    logs: &Logs,
-    antilogs: &Antilogs,
+    tables: &Tables,
     which: Direction,
     nk: usize,
     d: usize,
@@ -58,15 +53,14 @@ fn block_core(
     tape: &[u32],
     output: &mut [u8],
 ) -> usize
-    requires { BlockFits nk d key.now input.now (bytes_of tape.now) output.old × Tables logs.now antilogs.now }
+    requires { BlockFits nk d key.now input.now (bytes_of tape.now) output.old }
     ensures { (4 * result ≡ Cipher.cipher_need nk d)
         × (output.new ≡ laid_of which nk d key.now input.now (bytes_of tape.now)) }
 {
     let mut keys = [0u8; 2160];
     let size = sizes::prepared_length(nk, d);
     block_with(
-        logs,
-        antilogs,
+        tables,
         which,
         nk,
         d,
@@ -90,21 +84,17 @@ fn call(
     ensures { outcome result output.new
         ≡ single_outcome which order key.now input.now tape.now output.old }
 {
-    let answer = lengths::answers::single_answer(
+    lengths::answers::single_answer(
         order,
         key.len(),
         input.len(),
         tape.len(),
         output.len(),
-    );
-    let Answer::Taken(_) = answer else {
-        return answer;
-    };
+    )?;
     let nk = sizes::key_words(order, key.len());
-    let logs = gf256::logs();
-    let antilogs = gf256::antilogs();
-    Answer::Taken(Count {
-        taken: block_core(&logs, &antilogs, which, nk, order, key, input, tape, output),
+    let tables = Tables::new();
+    Ok(Count {
+        taken: block_core(&tables, which, nk, order, key, input, tape, output),
     })
 }
 

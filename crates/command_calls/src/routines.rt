@@ -61,7 +61,7 @@ fn call(
         Command::Refresh => refresh::refresh(order, first, tape, output),
         Command::Product => masking::masked_product(order, first, second, tape, output),
         Command::Sbox => sbox::masked_box(order, first, tape, output),
-        _ => Answer::Refused(Refusal::Order),
+        _ => Err(Refusal::Order),
     }
 }
 

@@ -5,11 +5,11 @@ use text::answers;
 // The sheet goes into a buffer of that size.
 fn run_in(order: usize, left: &[u8], right: &[u8], tape: &[u32], sheet: &mut [u8]) {
     match sheets::product_sheet(order, left, right, tape, sheet) {
-        Answer::Taken(count) => {
+        Ok(count) => {
             listing::places::print(order, sheet);
             answers::print_taken(count)
         }
-        Answer::Refused(r) => answers::print_refused(r),
+        Err(r) => answers::print_refused(r),
     }
 }
 

@@ -20,7 +20,7 @@ fn read_with(
         ≡ cube_reading_outcome order input.now tape.now list.now output.old }
 {
     let made = cubes::cube_sheet(order, input, tape, sheet);
-    let Answer::Taken(count) = made else {
+    let Ok(count) = made else {
         return made;
     };
     place_lists::read_listed(count, order, sheet, list, output)

@@ -3,7 +3,7 @@ use mathlib.Core.Path.{◌≡◌}
 use mathlib.Core.Bool.{true}
 use Prim.Native.Nat.{ℕ, suc, ◌*◌}
 use Rattle.xor.specs.Pairs.{pair_count}
-use Rattle.outcomes.specs.declared.Answer.{Answer}
+use Rattle.outcomes.specs.Outcome.{Answer}
 use Rattle.outcomes.specs.Outcome.{answered, took, served}
 use Rattle.tape_words.specs.Words.{words_for}
 use Rattle.shares.specs.Calls.{input_tests}

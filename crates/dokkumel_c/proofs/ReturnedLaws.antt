@@ -8,8 +8,8 @@ use lib.Dec.{ltb}
 use lib.ListN.{length, drop, length-drop, drop_of_length-le}
 use borrow.Author.Tests.{ltb-true, ltb-false}
 use Rattle.outcomes.specs.declared.Count.{Count}
-use Rattle.outcomes.specs.declared.Answer.{Answer}
-use Rattle.outcomes.specs.declared.Answer.TheVariants.{Taken, Refused}
+use Rattle.outcomes.specs.Outcome.{Answer}
+use Rattle.std.specs.Prelude.{Ok, Err}
 use Rattle.outcomes.specs.Outcome.{Outcome, Test, answered, ended, settled}
 use Rattle.shares.specs.Calls.{unused}
 use Rattle.dokkumel_c.specs.Returned.{Returned, gives, returned, unused_start}
@@ -27,12 +27,12 @@ unfolding settled
 preview_returns ts k o made q t s n s' n' f g = go (answered ts k) f g
   where
     go : (a : Answer) → gives s n q ≡ returned (ended a o made) t → gives s' n' [] ≡ returned (ended a [] []) t → (s ≡ s') × (n ≡ n')
-    go (Taken c) f g = (
+    go (Ok c) f g = (
       ap (λ (x : Returned). x.status) f ∙ sym (ap (λ (x : Returned). x.status) g),
       ap (λ (x : Returned). x.taken) f
           ∙ sym (ap (λ (x : Returned). x.taken) g),
     )
-    go (Refused r) f g = (
+    go (Err r) f g = (
       ap (λ (x : Returned). x.status) f ∙ sym (ap (λ (x : Returned). x.status) g),
       ap (λ (x : Returned). x.taken) f
           ∙ sym (ap (λ (x : Returned). x.taken) g),

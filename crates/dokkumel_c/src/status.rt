@@ -11,10 +11,10 @@ pub fn returned(answer: Answer, taken: &mut usize) -> u32
         → Returned.gives result taken.new q ≡ Returned.returned (Outcome.outcome answer q) taken.old }
 {
     match answer {
-        Answer::Taken(k) => {
+        Ok(k) => {
             *taken = k.taken;
             0
         }
-        Answer::Refused(r) => outcomes::asked::number(r),
+        Err(r) => outcomes::asked::number(r),
     }
 }

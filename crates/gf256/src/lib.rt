@@ -1,17 +1,16 @@
 // Bytes as elements of AES's field: products and powers. Document 01, "Bytes as field elements", and document 02, wishes 2, 3 and 5, decide;
 // specs/Field.antt has the definitions that the contracts name.
 //
-// What stands at the root asks nothing of a caller. The products and powers by logs ask for the two tables and stand in modules of their own: their
-// callers, the cores of the crates above, are lent the tables.
+// What stands at the root asks nothing of a caller. The products and powers by logs are methods of the two tables (`Tables`), which the cores of the
+// crates above are lent.
 #![tactic(auto)]
 
-pub mod powers;
+mod powers;
 mod product;
-pub mod table_product;
 mod tables;
 
 pub use product::{double, times};
-pub use tables::{Antilogs, Logs, antilogs, logs};
+pub use tables::Tables;
 
 // Which way AES runs: by the cipher of FIPS 197, or by its inverse cipher.
 #[derive(Clone, Copy)]

@@ -1,12 +1,19 @@
-// The log and antilog tables to base 03. Document 02, wish 5, decides; specs/Tables.antt says what they hold.
+// The log and antilog tables to base 03, and what the masked routines do with them. Document 02, wish 5, decides; specs/Tables.antt says what they
+// hold.
 //
-// A constant array that is read at a variable index is built anew at each read. So the routines that start a call copy both tables once, and lend
-// them to all that stands below.
+// A constant array that is read at a variable index is built anew at each read. So the routines that start a call copy both tables once
+// (`Tables::new`), and lend them to all that stands below.
+ghost use Rattle.std.specs.Prelude.{◌≡◌};
+ghost use Rattle.gf256.specs.Field;
+ghost use Rattle.gf256.specs.Exponents.{raised_to};
 ghost use Rattle.gf256.specs.Tables.{LogTable, AntilogTable};
 
-pub type Logs = [u16; 256];
+use crate::Exponent;
+use crate::powers;
 
-pub type Antilogs = [u8; 1021];
+type Logs = [u16; 256];
+
+type Antilogs = [u8; 1021];
 
 // For a byte that is not 00, the k below 255 at which 03 to the k is that byte. For 00 it is 510, past every sum of two others.
 const LOGS: Logs = [
@@ -93,16 +100,40 @@ const ANTILOGS: Antilogs = [
     0x00, 0x00, 0x00, 0x00, 0x00, 0x00, 0x00, 0x00, 0x00, 0x00, 0x00, 0x00, 0x00,
 ];
 
-// A copy of the logs.
-pub fn logs() -> Logs
-    ensures { LogTable result }
-{
-    LOGS
+// The two tables. What they hold is a fact of the type: every place that makes one proves it.
+pub struct Tables {
+    logs: Logs,
+    antilogs: Antilogs,
+    ghost logs_right: { LogTable logs },
+    ghost antilogs_right: { AntilogTable antilogs },
 }
 
-// A copy of the antilogs.
-pub fn antilogs() -> Antilogs
-    ensures { AntilogTable result }
-{
-    ANTILOGS
+impl Tables {
+    // A copy of both.
+    pub fn new() -> Tables {
+        Tables {
+            logs: LOGS,
+            antilogs: ANTILOGS,
+        }
+    }
+
+    // The product by logs: what the masked routines multiply with. A zero factor gives zero with no branch, since its log leads into the antilogs'
+    // zeros. product.rt has the same product by shifts.
+    pub fn times(&self, a: u8, b: u8) -> u8
+        ensures { result ≡ Field.times a b }
+    {
+        let i = self.logs[a as usize] as usize;
+        let j = self.logs[b as usize] as usize;
+        self.antilogs[i + j]
+    }
+
+    // The power that is named: half of the exponent times the log, then twice that. The powers of 03 repeat after 255, so 256 counts as 1, and what
+    // stands above the low byte is added to it. From the log of 00 that makes 255, whose double leads into the antilogs' zeros: no branch.
+    pub fn raised(&self, which: Exponent, a: u8) -> u8
+        ensures { result ≡ raised_to which a }
+    {
+        let m = powers::half(which);
+        let t = self.logs[a as usize] as usize * m;
+        self.antilogs[2 * (t % 256 + t / 256)]
+    }
 }

@@ -7,8 +7,8 @@ use native.Mathlib.Omega.{arith}
 use borrow.Author.Tests.{eqb-true, ltb-true, lt-ltb, le-ltb}
 use Rattle.outcomes.specs.declared.Refusal.TheVariants.{Key}
 use Rattle.outcomes.specs.declared.Count.{Count}
-use Rattle.outcomes.specs.declared.Answer.{Answer}
-use Rattle.outcomes.specs.declared.Answer.TheVariants.{Taken, Refused}
+use Rattle.outcomes.specs.Outcome.{Answer}
+use Rattle.std.specs.Prelude.{Ok, Err}
 use Rattle.outcomes.specs.Outcome.{Test, answered, took, served}
 use Rattle.outcomes.proofs.OutcomeLaws.{Passed, ◌and◌, answered_here, answered_next, answered-taken, served_bounds, reaches_le}
 use Rattle.tape_words.specs.Words.{words_for}
@@ -23,7 +23,7 @@ some_words zero nk e h = absurd (h (omega arith))
 some_words (suc n) nk e h = omega arith
 
 module _ (d nk : ℕ) (ts : List Test) (k : Count) where
-  pub keyed-none : (n : ℕ) → n ≡ nk → served d ≡ true → n ≡ 0 → Refused Key ≡ answered (keyed d nk ts) k
+  pub keyed-none : (n : ℕ) → n ≡ nk → served d ≡ true → n ≡ 0 → Err Key ≡ answered (keyed d nk ts) k
   keyed-none n e u z = answered_next _ _ _ k u (answered_here _ _ _ k (le-ltb 0 nk (omega arith)))
 
   pub keyed-some : (n : ℕ) (a : Answer) → n ≡ nk → served d ≡ true → (n ≡ 0 → ⊥) → a ≡ answered ts k → a ≡ answered (keyed d nk ts) k
@@ -50,7 +50,7 @@ block_passed nk need d x t o (u and y and i and r and n and p) = record {
   drawn = reaches_le t need n;
 }
 
-pub block_through : (nk need d x t o : ℕ) (a : Answer) (k c : Count) → a ≡ answered (keyed d nk (block_tests need d x t o)) k → a ≡ Taken c
+pub block_through : (nk need d x t o : ℕ) (a : Answer) (k c : Count) → a ≡ answered (keyed d nk (block_tests need d x t o)) k → a ≡ Ok c
     → BlockThrough nk need d x t o
 block_through nk need d x t o a k c e f = block_passed nk need d x t o (answered-taken _ k c (sym e ∙ f)).0
 
@@ -71,7 +71,7 @@ preparation_passed d k t o (u and y and r and n and p) = record {
   drawn = reaches_le t (words_for (schedule_need (key_words d k) d)) n;
 }
 
-pub preparation_through : (d k t o : ℕ) (a : Answer) (n c : Count) → a ≡ answered (preparation_tests d k t o) n → a ≡ Taken c
+pub preparation_through : (d k t o : ℕ) (a : Answer) (n c : Count) → a ≡ answered (preparation_tests d k t o) n → a ≡ Ok c
     → PreparationThrough d k t o
 preparation_through d k t o a n c e f = preparation_passed d k t o (answered-taken _ n c (sym e ∙ f)).0
 

@@ -18,15 +18,15 @@ fn block_answer(need: usize, d: usize, input: usize, tape: usize, output: usize)
 {
     let size = (d + 1) * 16;
     if input != size {
-        return Answer::Refused(Refusal::Input);
+        return Err(Refusal::Input);
     }
     if output != size {
-        return Answer::Refused(Refusal::Output);
+        return Err(Refusal::Output);
     }
     if tape < need {
-        return Answer::Refused(Refusal::Tape);
+        return Err(Refusal::Tape);
     }
-    Answer::Taken(Count { taken: need })
+    Ok(Count { taken: need })
 }
 
 // The tests of an encryption or decryption by a single call.
@@ -34,11 +34,11 @@ pub fn single_answer(order: usize, key: usize, input: usize, tape: usize, output
     ensures { result ≡ answered (single_tests order key input tape output) (took (words_for (cipher_need (key_words order key) order))) }
 {
     if !outcomes::asked::served(order) {
-        return Answer::Refused(Refusal::Order);
+        return Err(Refusal::Order);
     }
     let nk = sizes::key_words(order, key);
     if nk == 0 {
-        return Answer::Refused(Refusal::Key);
+        return Err(Refusal::Key);
     }
     let need = tape_words::words_for(needs::cipher_need(nk, order));
     block_answer(need, order, input, tape, output)
@@ -57,11 +57,11 @@ pub fn prepared_answer(
         (took (words_for (encrypted_with_need (prepared_words order prepared) order))) }
 {
     if !outcomes::asked::served(order) {
-        return Answer::Refused(Refusal::Order);
+        return Err(Refusal::Order);
     }
     let nk = sizes::prepared_words(order, prepared);
     if nk == 0 {
-        return Answer::Refused(Refusal::Key);
+        return Err(Refusal::Key);
     }
     let need = tape_words::words_for(needs::encrypted_with_need(nk, order));
     block_answer(need, order, input, tape, output)
@@ -72,18 +72,18 @@ pub fn preparation_answer(order: usize, key: usize, tape: usize, output: usize) 
     ensures { result ≡ answered (preparation_tests order key tape output) (took (words_for (schedule_need (key_words order key) order))) }
 {
     if !outcomes::asked::served(order) {
-        return Answer::Refused(Refusal::Order);
+        return Err(Refusal::Order);
     }
     let nk = sizes::key_words(order, key);
     if nk == 0 {
-        return Answer::Refused(Refusal::Key);
+        return Err(Refusal::Key);
     }
     if output != sizes::prepared_length(nk, order) {
-        return Answer::Refused(Refusal::Output);
+        return Err(Refusal::Output);
     }
     let words = tape_words::words_for(needs::schedule_need(nk, order));
     if tape < words {
-        return Answer::Refused(Refusal::Tape);
+        return Err(Refusal::Tape);
     }
-    Answer::Taken(Count { taken: words })
+    Ok(Count { taken: words })
 }

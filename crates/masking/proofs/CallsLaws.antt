@@ -13,8 +13,8 @@ use Rattle.isw.specs.Place.{product_need}
 use Rattle.isw.proofs.OrderLaws.{product_need_bound}
 use Rattle.outcomes.specs.declared.Refusal.TheVariants.{Order, Input, Output, Tape}
 use Rattle.outcomes.specs.declared.Count.{Count}
-use Rattle.outcomes.specs.declared.Answer.{Answer}
-use Rattle.outcomes.specs.declared.Answer.TheVariants.{Taken}
+use Rattle.outcomes.specs.Outcome.{Answer}
+use Rattle.std.specs.Prelude.{Ok}
 use Rattle.outcomes.specs.Outcome.{test, answered, served, reaches}
 use Rattle.outcomes.proofs.OutcomeLaws.{Passed, ◌and◌, answered-behind, answered-taken, served_bounds, reaches_le}
 use Rattle.tape_words.specs.Words.{bytes_of, words_for}
@@ -49,7 +49,7 @@ factors_passed room d a b t o (u and i and r and n and p) =
     let f = two_fit_lengths d a b i in
     record { order = (served_bounds d u).1; left = f.0; right = f.1; output = eqb-true o room r; drawn = reaches_le t _ n }
 
-pub factors_through : (room d a b t o : ℕ) (q : Answer) (k c : Count) → q ≡ answered (factor_tests room d a b t o) k → q ≡ Taken c
+pub factors_through : (room d a b t o : ℕ) (q : Answer) (k c : Count) → q ≡ answered (factor_tests room d a b t o) k → q ≡ Ok c
     → FactorsThrough room d a b t o
 factors_through room d a b t o q k c e f = factors_passed room d a b t o (answered-taken _ k c (sym e ∙ f)).0
 

@@ -2,7 +2,6 @@
 // Document 01, "The steps over shares", decides.
 ghost use Rattle.std.specs.Prelude.{◌≡◌, suc, ◌≤◌, length};
 ghost use Rattle.gf256.specs.Field as Field;
-ghost use Rattle.gf256.specs.Tables.{Tables};
 ghost use Rattle.isw.specs.Place as Place;
 ghost use Rattle.outcomes.specs.Outcome.{outcome, answered, took};
 ghost use Rattle.tape_words.specs.Words.{bytes_of, words_for};
@@ -10,7 +9,7 @@ ghost use Rattle.masking.specs.Steps;
 ghost use Rattle.masking.specs.Fits.{FactorsFit, RowFits};
 ghost use Rattle.masking.specs.Calls.{two_fit, factor_tests, product_outcome};
 
-use gf256::{Antilogs, Logs};
+use gf256::Tables;
 use outcomes::{Answer, Count, Refusal};
 
 // How many bytes a product of order d draws.
@@ -44,25 +43,24 @@ pub fn factors_answer(
     ensures { result ≡ answered (factor_tests room order left right tape output) (took (words_for (Place.product_need order))) }
 {
     if !outcomes::asked::served(order) {
-        return Answer::Refused(Refusal::Order);
+        return Err(Refusal::Order);
     }
     if !two_fit(order, left, right) {
-        return Answer::Refused(Refusal::Input);
+        return Err(Refusal::Input);
     }
     if output != room {
-        return Answer::Refused(Refusal::Output);
+        return Err(Refusal::Output);
     }
     let need = tape_words::words_for(product_need(order));
     if tape < need {
-        return Answer::Refused(Refusal::Tape);
+        return Err(Refusal::Tape);
     }
-    Answer::Taken(Count { taken: need })
+    Ok(Count { taken: need })
 }
 
 // Row i of the pairs and its running sums, on rows of its own. Answers with how many bytes were drawn.
 fn product_row(
-    logs: &Logs,
-    antilogs: &Antilogs,
+    tables: &Tables,
     i: usize,
     w: usize,
     a: &[u8],
@@ -70,7 +68,7 @@ fn product_row(
     tape: &[u8],
     sums: &mut [u8],
 ) -> usize
-    requires { RowFits i w a.now b.now tape.now sums.old × Tables logs.now antilogs.now }
+    requires { RowFits i w a.now b.now tape.now sums.old }
     ensures { (result ≡ w)
         × (sums.new ≡ Steps.pairs_taken a.now b.now tape.now i w sums.old) }
 {
@@ -80,68 +78,64 @@ fn product_row(
     let mut back = [0u8; 8];
     let mut own = [0u8; 8];
     crate::steps::take_row(
-        logs, antilogs, i, w, a, b, tape, &mut upper, &mut half, &mut lower, &mut back, &mut own,
+        tables, i, w, a, b, tape, &mut upper, &mut half, &mut lower, &mut back, &mut own,
         sums,
     )
 }
 
 // All pairs, in the order of the draws, into the sums, which have their starts. Answers with how many bytes were drawn.
 fn take_pairs(
-    logs: &Logs,
-    antilogs: &Antilogs,
+    tables: &Tables,
     d: usize,
     a: &[u8],
     b: &[u8],
     tape: &[u8],
     sums: &mut [u8],
 ) -> usize
-    requires { FactorsFit d a.now b.now tape.now × (sums.old ≡ Steps.starts a.now b.now (suc d))
-        × Tables logs.now antilogs.now }
+    requires { FactorsFit d a.now b.now tape.now × (sums.old ≡ Steps.starts a.now b.now (suc d)) }
     ensures { (result ≡ Place.product_need d)
         × (sums.new ≡ Place.product Field.times d a.now b.now tape.now) }
 {
     let mut drawn: usize = 0;
     for i in 0..d {
-        drawn += product_row(logs, antilogs, i, d - i, a, b, &tape[drawn..], sums);
+        drawn += product_row(tables, i, d - i, a, b, &tape[drawn..], sums);
     }
     drawn
 }
 
 // The product's shares. Answers with how many bytes were drawn.
 pub fn product_core(
-    logs: &Logs,
-    antilogs: &Antilogs,
+    tables: &Tables,
     d: usize,
     a: &[u8],
     b: &[u8],
     tape: &[u8],
     output: &mut [u8],
 ) -> usize
-    requires { FactorsFit d a.now b.now tape.now × (length output.old ≡ suc d) × Tables logs.now antilogs.now }
+    requires { FactorsFit d a.now b.now tape.now × (length output.old ≡ suc d) }
     ensures { (result ≡ Place.product_need d)
         × (output.new ≡ Place.product Field.times d a.now b.now tape.now) }
 {
-    crate::steps::start_sums(logs, antilogs, d + 1, a, b, output);
-    take_pairs(logs, antilogs, d, a, b, tape, output)
+    crate::steps::start_sums(tables, d + 1, a, b, output);
+    take_pairs(tables, d, a, b, tape, output)
 }
 
 // The same on a tape of words. Answers with how many words were drawn.
 fn product_on_words(
-    logs: &Logs,
-    antilogs: &Antilogs,
+    tables: &Tables,
     d: usize,
     a: &[u8],
     b: &[u8],
     tape: &[u32],
     output: &mut [u8],
 ) -> usize
-    requires { FactorsFit d a.now b.now (bytes_of tape.now) × (length output.old ≡ suc d) × Tables logs.now antilogs.now }
+    requires { FactorsFit d a.now b.now (bytes_of tape.now) × (length output.old ≡ suc d) }
     ensures { (result ≡ words_for (Place.product_need d))
         × (output.new ≡ Place.product Field.times d a.now b.now (bytes_of tape.now)) }
 {
     let mut drawn = [0u8; pairs::counting::MOST];
     tape_words::unpack(product_need(d), tape, &mut drawn);
-    tape_words::words_for(product_core(logs, antilogs, d, a, b, &drawn, output))
+    tape_words::words_for(product_core(tables, d, a, b, &drawn, output))
 }
 
 pub fn masked_product(
@@ -154,20 +148,16 @@ pub fn masked_product(
     ensures { outcome result output.new
         ≡ product_outcome order left.now right.now tape.now output.old }
 {
-    let answer = factors_answer(
+    factors_answer(
         outcomes::asked::share_count(order),
         order,
         left.len(),
         right.len(),
         tape.len(),
         output.len(),
-    );
-    let Answer::Taken(_) = answer else {
-        return answer;
-    };
-    let logs = gf256::logs();
-    let antilogs = gf256::antilogs();
-    Answer::Taken(Count {
-        taken: product_on_words(&logs, &antilogs, order, left, right, tape, output),
+    )?;
+    let tables = Tables::new();
+    Ok(Count {
+        taken: product_on_words(&tables, order, left, right, tape, output),
     })
 }

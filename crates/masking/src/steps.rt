@@ -14,31 +14,27 @@ ghost use Rattle.std.specs.Prelude.{◌≡◌, ◌+◌, ◌≤◌, ◌<◌, leng
 ghost use Rattle.std.specs.Int.Bits.{bit_xor};
 ghost use Rattle.xor.specs.Lists.{at, tab};
 ghost use Rattle.xor.specs.Running.{owns};
-ghost use Rattle.gf256.specs.Tables.{Tables};
 ghost use Rattle.isw.specs.Place as Place;
 ghost use Rattle.xor.specs.Writes.{front};
 ghost use Rattle.masking.specs.Steps;
 ghost use Rattle.masking.specs.Fits.{RowFits, RowsFit, HalfFits};
 
-use gf256::table_product::table_times;
-use gf256::{Antilogs, Logs};
+use gf256::Tables;
 
 // The start of each running sum: a_i · b_i.
-pub fn start_sums(logs: &Logs, antilogs: &Antilogs, n: usize, a: &[u8], b: &[u8], output: &mut [u8])
-    requires { (length output.old ≡ n) × (length a.now ≡ n) × (length b.now ≡ n)
-        × Tables logs.now antilogs.now }
+pub fn start_sums(tables: &Tables, n: usize, a: &[u8], b: &[u8], output: &mut [u8])
+    requires { (length output.old ≡ n) × (length a.now ≡ n) × (length b.now ≡ n) }
     ensures { output.new ≡ Steps.starts a.now b.now n }
 {
     for i in 0..n {
-        output[i] = table_times(logs, antilogs, a[i], b[i]);
+        output[i] = tables.times(a[i], b[i]);
     }
 }
 
 // The first half of the pairs of row i with the w shares behind it: draws r(i, j), and takes a_i · b_j into it. Answers with how many bytes
 // were drawn.
 fn half_row(
-    logs: &Logs,
-    antilogs: &Antilogs,
+    tables: &Tables,
     i: usize,
     w: usize,
     a: &[u8],
@@ -47,7 +43,7 @@ fn half_row(
     upper: &mut [u8],
     half: &mut [u8],
 ) -> usize
-    requires { HalfFits i w a.now b.now tape.now upper.old half.old × Tables logs.now antilogs.now }
+    requires { HalfFits i w a.now b.now tape.now upper.old half.old }
     ensures { (result ≡ w)
         × (upper.new ≡ front (tab (Steps.uppers a.now b.now i) w) upper.old)
         × (half.new ≡ front (tab (Steps.halves a.now b.now tape.now i) w) half.old) }
@@ -57,7 +53,7 @@ fn half_row(
     for m in 0..w {
         let r = tape[drawn];
         drawn += 1;
-        let c = table_times(logs, antilogs, ai, b[i + 1 + m]);
+        let c = tables.times(ai, b[i + 1 + m]);
         upper[m] = c;
         half[m] = r ^ c;
     }
@@ -66,8 +62,7 @@ fn half_row(
 
 // Their second half: r(j, i) is what the first half left XOR a_j · b_i.
 fn back_row(
-    logs: &Logs,
-    antilogs: &Antilogs,
+    tables: &Tables,
     i: usize,
     w: usize,
     a: &[u8],
@@ -76,7 +71,7 @@ fn back_row(
     lower: &mut [u8],
     back: &mut [u8],
 )
-    requires { HalfFits i w a.now b.now half.now lower.old back.old × Tables logs.now antilogs.now }
+    requires { HalfFits i w a.now b.now half.now lower.old back.old }
     ensures { (lower.new ≡ front (tab (Steps.lowers a.now b.now i) w) lower.old)
         × (back.new
         ≡ front (tab (λ m. bit_xor (at half.now m) (Steps.lowers a.now b.now i m)) w)
@@ -84,7 +79,7 @@ fn back_row(
 {
     let bi = b[i];
     for m in 0..w {
-        let c = table_times(logs, antilogs, a[i + 1 + m], bi);
+        let c = tables.times(a[i + 1 + m], bi);
         lower[m] = c;
         back[m] = half[m] ^ c;
     }
@@ -94,8 +89,7 @@ fn back_row(
 // left over the fronts of four rows: a_i · b_j, the product above the diagonal; r(i, j) XOR a_i · b_j; a_j · b_i, the one below it; and r(j, i).
 // Answers with how many bytes were drawn.
 pub fn take_row(
-    logs: &Logs,
-    antilogs: &Antilogs,
+    tables: &Tables,
     i: usize,
     w: usize,
     a: &[u8],
@@ -109,7 +103,7 @@ pub fn take_row(
     sums: &mut [u8],
 ) -> usize
     requires { RowFits i w a.now b.now tape.now sums.old × RowsFit w upper.old half.old lower.old back.old
-        × (w ≤ length own.old) × Tables logs.now antilogs.now }
+        × (w ≤ length own.old) }
     ensures { (result ≡ w)
         × (upper.new ≡ front (tab (Steps.uppers a.now b.now i) w) upper.old)
         × (half.new ≡ front (tab (Steps.halves a.now b.now tape.now i) w) half.old)
@@ -118,8 +112,8 @@ pub fn take_row(
         × (own.new ≡ front (owns tape.now sums.old i w) own.old)
         × (sums.new ≡ Steps.pairs_taken a.now b.now tape.now i w sums.old) }
 {
-    let drawn = half_row(logs, antilogs, i, w, a, b, tape, upper, half);
-    back_row(logs, antilogs, i, w, a, b, half, lower, back);
+    let drawn = half_row(tables, i, w, a, b, tape, upper, half);
+    back_row(tables, i, w, a, b, half, lower, back);
     pairs::rows::sum_row(i, w, tape, back, own, sums);
     drawn
 }

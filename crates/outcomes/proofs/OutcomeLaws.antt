@@ -11,11 +11,12 @@ use Rattle.xor.proofs.Tests.{and_true}
 use Rattle.outcomes.specs.declared.Refusal.{Refusal}
 use Rattle.outcomes.specs.declared.Refusal.TheVariants.{Order, Key, Input, Output, Tape, List as Listed, Place}
 use Rattle.outcomes.specs.declared.Count.{Count}
-use Rattle.outcomes.specs.declared.Answer.{Answer}
-use Rattle.outcomes.specs.declared.Answer.TheVariants.{Taken, Refused}
+use Rattle.outcomes.specs.Outcome.{Answer}
+use Rattle.std.specs.Prelude.{Ok, Err, IsErrAnd}
+use Rattle.std.proofs.lemmas.Result.{err_from_is_err_and}
 use Rattle.outcomes.specs.Outcome.{done, refused, number, outcome, Test, test, answered, ended, settled, served, reaches}
 
-never : (r : Refusal) (k : Count) → Refused r ≡ Taken k → ⊥
+never : (r : Refusal) (k : Count) → Err r ≡ Ok k → ⊥
 never r k e = let z : ◌≡◌ {A = ℕ} 0 1 = cc in omega arith
 
 not_done : (n : ℕ) (o : List ℕ) (k : Count) (q : List ℕ) → refused n o ≡ done k q → ⊥
@@ -25,7 +26,7 @@ not_done n o k q e = let z : ◌≡◌ {A = ℕ} 0 1 = cc in omega arith
 
 module _ (r : Refusal) (b : Bool) (ts : List Test) (k : Count) where
   -- a test that fails is the answer
-  pub answered_here : b ≡ false → Refused r ≡ answered (test r b ∷ ts) k
+  pub answered_here : b ≡ false → Err r ≡ answered (test r b ∷ ts) k
   unfolding answered
   answered_here e = simp e
 
@@ -41,7 +42,7 @@ unfolding answered
 answered-behind r true ts ts' k same = ap (λ (l : List Test). answered l k) (same refl)
 answered-behind r false ts ts' k same = refl
 
-pub answered-none : (k : Count) → Taken k ≡ answered [] k
+pub answered-none : (k : Count) → Ok k ≡ answered [] k
 unfolding answered
 answered-none k = refl
 
@@ -60,18 +61,18 @@ pub others_passed : {t : Test} {ts : List Test} → Passed (t ∷ ts) → Passed
 others_passed (e and p) = p
 
 -- then it is counted
-pub answered-passed : {ts : List Test} (k : Count) → Passed ts → answered ts k ≡ Taken k
+pub answered-passed : {ts : List Test} (k : Count) → Passed ts → answered ts k ≡ Ok k
 unfolding answered
 answered-passed k all = refl
 answered-passed k (e and p) = simp (e, answered-passed k p)
 
 -- and only then
-one_taken : (t : Test) (ts : List Test) (k c : Count) (b : Bool) → t.passed ≡ b → (answered ts k ≡ Taken c → Passed ts × (c ≡ k))
-    → cond b (answered ts k) (Refused t.refusal) ≡ Taken c → Passed (t ∷ ts) × (c ≡ k)
+one_taken : (t : Test) (ts : List Test) (k c : Count) (b : Bool) → t.passed ≡ b → (answered ts k ≡ Ok c → Passed ts × (c ≡ k))
+    → cond b (answered ts k) (Err t.refusal) ≡ Ok c → Passed (t ∷ ts) × (c ≡ k)
 one_taken t ts k c true p rest e = let h = rest e in (p and h.0, h.1)
 one_taken t ts k c false p rest e = absurd (never t.refusal c e)
 
-pub answered-taken : (ts : List Test) (k c : Count) → answered ts k ≡ Taken c → Passed ts × (c ≡ k)
+pub answered-taken : (ts : List Test) (k c : Count) → answered ts k ≡ Ok c → Passed ts × (c ≡ k)
 unfolding answered
 answered-taken [] k c e = (all, cc)
 answered-taken (t ∷ ts) k c e = one_taken t ts k c t.passed refl (answered-taken ts k c) e
@@ -80,24 +81,33 @@ answered-taken (t ∷ ts) k c e = one_taken t ts k c t.passed refl (answered-tak
 
 module _ (ts : List Test) (k : Count) (o made : List ℕ) (a : Answer) (e : a ≡ answered ts k) where
   -- a refusal is the call's
-  pub settled-refused : (r : Refusal) → a ≡ Refused r → outcome a o ≡ settled ts k o made
+  pub settled-refused : (r : Refusal) → a ≡ Err r → outcome a o ≡ settled ts k o made
   unfolding settled
   settled-refused r f = ap (λ (x : Answer). outcome x o) f ∙ ap (λ (x : Answer). ended x o made) (sym f ∙ e)
 
   -- a call that is let through is done
-  pub settled-done : (c j : Count) (q : List ℕ) → a ≡ Taken c → j ≡ k → q ≡ made → done j q ≡ settled ts k o made
+  pub settled-done : (c j : Count) (q : List ℕ) → a ≡ Ok c → j ≡ k → q ≡ made → done j q ≡ settled ts k o made
   unfolding settled
   settled-done c j q f p s =
       ap₂ done (p ∙ sym (answered-taken ts k c (sym e ∙ f)).1) s ∙ ap (λ (x : Answer). ended x o made) (sym f ∙ e)
 
 -- a preview: what is not written stays either way
+-- the exit of a `?`: the refusal is handed up as it is
+pub handed_up : (q : Answer) (r : Refusal) → IsErrAnd q (λ s. s ≡ r) → q ≡ Err r
+handed_up q r h = let p = err_from_is_err_and q h in p.1 ∙ ap Err p.2
+
+pub settled-handed : (ts : List Test) (k : Count) (o made : List ℕ) (a : Answer) → a ≡ answered ts k → (r : Refusal) → a ≡ Err r
+    → (q : Answer) → IsErrAnd q (λ s. s ≡ r) → outcome q o ≡ settled ts k o made
+settled-handed ts k o made a e r f q h =
+    ap (λ (x : Answer). outcome x o) (handed_up q r h ∙ sym f) ∙ settled-refused ts k o made a e r f
+
 pub settled_same : (ts : List Test) (k : Count) (q : List ℕ) (a : Answer) → a ≡ answered ts k → outcome a q ≡ settled ts k q q
 unfolding settled
 settled_same ts k q a e = unwritten a ∙ ap (λ (x : Answer). ended x q q) e
   where
     unwritten : (a : Answer) → outcome a q ≡ ended a q q
-    unwritten (Taken c) = refl
-    unwritten (Refused r) = refl
+    unwritten (Ok c) = refl
+    unwritten (Err r) = refl
 
 -- a test that passes leaves it to the others
 pub settled-past : (t : Test) (ts : List Test) (k : Count) (o made : List ℕ) → t.passed ≡ true → settled (t ∷ ts) k o made ≡ settled ts k o made
@@ -116,11 +126,11 @@ unfolding settled
 settled-taken ts k o made c q e = go (answered ts k) refl e
   where
     go : (a : Answer) → answered ts k ≡ a → ended a o made ≡ done c q → Passed ts × (c ≡ k) × (q ≡ made)
-    go (Taken j) p e =
+    go (Ok j) p e =
         let h = answered-taken ts k j p in
         let z : c ≡ j = cc in
         (h.0, z ∙ h.1, cc)
-    go (Refused r) p e = absurd (not_done (number r) o c q e)
+    go (Err r) p e = absurd (not_done (number r) o c q e)
 
 -- ---- an outcome tells the answer
 
@@ -140,11 +150,11 @@ refusal-number Listed = refl
 refusal-number Place = refl
 
 pub outcome_answer : (a b : Answer) (q o made : List ℕ) → outcome a q ≡ ended b o made → a ≡ b
-outcome_answer (Taken k) (Taken j) q o made e = let z : k ≡ j = cc in ap Taken z
-outcome_answer (Taken k) (Refused r) q o made e = absurd (not_done (number r) o k q (sym e))
-outcome_answer (Refused r) (Taken k) q o made e = absurd (not_done (number r) q k made e)
-outcome_answer (Refused r) (Refused s) q o made e =
-    let z : number r ≡ number s = cc in ap Refused (sym (refusal-number r) ∙ ap refusal z ∙ refusal-number s)
+outcome_answer (Ok k) (Ok j) q o made e = let z : k ≡ j = cc in ap Ok z
+outcome_answer (Ok k) (Err r) q o made e = absurd (not_done (number r) o k q (sym e))
+outcome_answer (Err r) (Ok k) q o made e = absurd (not_done (number r) q k made e)
+outcome_answer (Err r) (Err s) q o made e =
+    let z : number r ≡ number s = cc in ap Err (sym (refusal-number r) ∙ ap refusal z ∙ refusal-number s)
 
 -- ---- what is asked
 

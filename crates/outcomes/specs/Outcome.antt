@@ -1,11 +1,13 @@
 -- What a call answers and leaves behind, with document 01's number for each refusal. Document 01, "Turned-down calls", decides.
 -- Assumes nothing: these are definitions.
-use Rattle.std.specs.Prelude.{Bool, not, cond, ◌&&◌, List, [], ◌∷◌, ℕ, ◌*◌, ltb, eqb}
+use Rattle.std.specs.Prelude.{Option, Some, None, Result, Ok, Err, Bool, not, cond, ◌&&◌, List, [], ◌∷◌, ℕ, ◌*◌, ltb, eqb}
 use Rattle.outcomes.specs.declared.Refusal.{Refusal}
 use Rattle.outcomes.specs.declared.Refusal.TheVariants.{Order, Key, Input, Output, Tape, List as Listed, Place}
 use Rattle.outcomes.specs.declared.Count.{Count}
-use Rattle.outcomes.specs.declared.Answer.{Answer}
-use Rattle.outcomes.specs.declared.Answer.TheVariants.{Taken, Refused}
+
+-- what a call answers: what it counted, or why it is refused
+abbrev pub Answer : Type 0
+Answer = Result Count Refusal
 
 -- a call was carried through, with what it counted; or it was refused with a number. Either way with the output's bytes afterwards
 pub data Outcome : Type 0 where
@@ -28,8 +30,8 @@ took n = record { taken = n }
 
 -- an answer, with the output as the call left it
 abbrev pub outcome : Answer → (output : List ℕ) → Outcome
-outcome (Taken k) q = done k q
-outcome (Refused r) q = refused (number r) q
+outcome (Ok k) q = done k q
+outcome (Err r) q = refused (number r) q
 
 -- ---- the tests of a call, as document 01's table lists them
 
@@ -44,13 +46,13 @@ test r b = record { refusal = r; passed = b }
 
 -- the tests in turn: the first that fails is the answer; if none does, the count
 unfoldable pub answered : List Test → Count → Answer
-answered [] k = Taken k
-answered (t ∷ ts) k = cond t.passed (answered ts k) (Refused t.refusal)
+answered [] k = Ok k
+answered (t ∷ ts) k = cond t.passed (answered ts k) (Err t.refusal)
 
 -- an answer, with the output as it was where the call is refused, and as it is made where it is done
 abbrev pub ended : Answer → (output made : List ℕ) → Outcome
-ended (Taken k) o made = done k made
-ended (Refused r) o made = refused (number r) o
+ended (Ok k) o made = done k made
+ended (Err r) o made = refused (number r) o
 
 -- THE OUTCOME of a call: its tests decide; a refused call leaves the output as it was
 unfoldable pub settled : List Test → Count → (output made : List ℕ) → Outcome
@@ -70,6 +72,11 @@ reaches t n = not (ltb t n)
 unfoldable pub one_of : (lengths : List ℕ) (n bytes : ℕ) → ℕ
 one_of [] n b = 0
 one_of (l ∷ ls) n b = cond (eqb b (n * l)) l (one_of ls n b)
+
+-- the same, where none of them is told apart from a length 0
+unfoldable pub listed_length : (lengths : List ℕ) (n bytes : ℕ) → Option ℕ
+listed_length [] n b = None
+listed_length (l ∷ ls) n b = cond (eqb b (n * l)) (Some l) (listed_length ls n b)
 
 -- the lengths of keys, and of strings that are split and joined
 abbrev pub key_lengths : List ℕ

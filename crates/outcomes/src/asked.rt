@@ -2,8 +2,6 @@
 ghost use Rattle.std.specs.Prelude.{◌≡◌, true, suc, ◌≤◌};
 ghost use Rattle.outcomes.specs.Outcome;
 
-use crate::Refusal;
-
 // Whether the order is one of 1 to 8. It is tested on the raw number, before order + 1 is formed.
 pub fn served(order: usize) -> bool
     ensures { result ≡ Outcome.served order }
@@ -24,42 +22,24 @@ pub fn share_count(order: usize) -> usize
     0
 }
 
-// Which of the listed lengths one of n shares has, in a string of so many bytes; 0 where it is none of them.
-pub fn one_of(lengths: &[u8], n: usize, bytes: usize) -> usize
+// Which of the listed lengths one of n shares has, in a string of so many bytes, if any.
+pub fn one_of(lengths: &[u8], n: usize, bytes: usize) -> Option<usize>
     requires { n ≤ 9 }
-    ensures { result ≡ Outcome.one_of lengths.now n bytes }
+    ensures { result ≡ Outcome.listed_length lengths.now n bytes }
 {
-    let mut found: usize = 0;
-    let mut k = lengths.len();
-    while 0 < k {
-        k -= 1;
-        let l = lengths[k] as usize;
+    for length in lengths {
+        let l = *length as usize;
         if bytes == n * l {
-            found = l;
+            return Some(l);
         }
     }
-    found
+    None
 }
 
-// The length of one of n shares in a string of that many bytes, if it is 16, 24 or 32; else 0.
-pub fn share_length(n: usize, bytes: usize) -> usize
+// The length of one of n shares in a string of that many bytes, if it is 16, 24 or 32.
+pub fn share_length(n: usize, bytes: usize) -> Option<usize>
     requires { n ≤ 9 }
-    ensures { result ≡ Outcome.share_length n bytes }
+    ensures { result ≡ Outcome.listed_length Outcome.key_lengths n bytes }
 {
     one_of(&[16, 24, 32], n, bytes)
-}
-
-// Document 01's number of a refusal.
-pub fn number(r: Refusal) -> u32
-    ensures { result ≡ Outcome.number r }
-{
-    match r {
-        Refusal::Order => 1,
-        Refusal::Key => 2,
-        Refusal::Input => 3,
-        Refusal::Output => 4,
-        Refusal::Tape => 5,
-        Refusal::List => 6,
-        Refusal::Place => 7,
-    }
 }

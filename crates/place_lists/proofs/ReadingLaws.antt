@@ -13,8 +13,8 @@ use Rattle.isw.specs.Place.{listed}
 use Rattle.outcomes.specs.declared.Refusal.{Refusal}
 use Rattle.outcomes.specs.declared.Refusal.TheVariants.{Order, Input, Output, Tape}
 use Rattle.outcomes.specs.declared.Count.{Count}
-use Rattle.outcomes.specs.declared.Answer.{Answer}
-use Rattle.outcomes.specs.declared.Answer.TheVariants.{Taken, Refused}
+use Rattle.outcomes.specs.Outcome.{Answer}
+use Rattle.std.specs.Prelude.{Ok, Err}
 use Rattle.outcomes.specs.Outcome.{done, outcome, Test, test, answered, settled}
 use Rattle.outcomes.proofs.OutcomeLaws.{Passed, all, ◌and◌, answered-taken, outcome_answer, le_reaches}
 use Rattle.outcomes.proofs.OutcomeLaws.{settled-past, settled-passed, settled-refused, settled-done, settled-taken}
@@ -43,11 +43,11 @@ module _ (k : Count) (d : ℕ) (bs ps o : List ℕ) (below : Bool) (so : below �
   own_answered : answer ≡ answered own k
   own_answered = asked ∙ ap (λ (y : Bool). answered (listed_tests d (length ps) (length o) y) k) so
 
-  pub listed-refused : (r : Refusal) → answer ≡ Refused r → outcome answer o ≡ listed_outcome [] (length bs) k d bs ps o
+  pub listed-refused : (r : Refusal) → answer ≡ Err r → outcome answer o ≡ listed_outcome [] (length bs) k d bs ps o
   unfolding listed_outcome
   listed-refused = settled-refused own k o _ answer own_answered
 
-  module _ (c : Count) (through : answer ≡ Taken c) where
+  module _ (c : Count) (through : answer ≡ Ok c) where
     known : Passed own × (c ≡ k)
     known = answered-taken own k c (sym own_answered ∙ through)
 
@@ -87,13 +87,13 @@ listed_shows first m k d bs ps o c q e = let g = settled-taken _ k o _ c q e in 
 
 -- ---- behind the making of the sheet
 
-never : (r : Refusal) (k : Count) → Taken k ≡ Refused r → ⊥
+never : (r : Refusal) (k : Count) → Ok k ≡ Err r → ⊥
 never r k e = let z : ◌≡◌ {A = ℕ} 0 1 = cc in omega arith
 
 -- a refusal of the sheet, where its output has the room, is one of the reading
 handed : (u f g t : Bool) (next : Answer) (k : Count) (r : Refusal) → (u ≡ true → g ≡ true)
-    → Refused r ≡ cond u (cond f (cond g (cond t (Taken k) (Refused Tape)) (Refused Output)) (Refused Input)) (Refused Order)
-    → Refused r ≡ cond u (cond f (cond t next (Refused Tape)) (Refused Input)) (Refused Order)
+    → Err r ≡ cond u (cond f (cond g (cond t (Ok k) (Err Tape)) (Err Output)) (Err Input)) (Err Order)
+    → Err r ≡ cond u (cond f (cond t next (Err Tape)) (Err Input)) (Err Order)
 handed false f g t next k r h e = e
 handed true false g t next k r h e = e
 handed true true false t next k r h e = absurd (true_false (sym (h refl)))
@@ -112,7 +112,7 @@ module _ (u f t : Bool) (size : ℕ) (k : Count) (d : ℕ) (bs ps o s q : List �
   sheet-answered = outcome_answer made _ q s bs told
 
   -- a refusal is handed up
-  pub reading_handed : (u ≡ true → length s ≡ size) → (r : Refusal) → made ≡ Refused r
+  pub reading_handed : (u ≡ true → length s ≡ size) → (r : Refusal) → made ≡ Err r
       → outcome made o ≡ listed_outcome (made_tests u f t) size k d bs ps o
   unfolding listed_outcome answered
   reading_handed room r e =
@@ -120,7 +120,7 @@ module _ (u f t : Bool) (size : ℕ) (k : Count) (d : ℕ) (bs ps o s q : List �
       (e ∙ handed u f (eqb (length s) size) t _ k r (λ served. eq-eqb (length s) size (room served)) (sym e ∙ sheet-answered)) r e
 
   -- a sheet that is made is read: what is left are the list's own tests, and q is the sheet
-  pub reading_made : (f ≡ true → length bs ≡ size) → (c : Count) → made ≡ Taken c
+  pub reading_made : (f ≡ true → length bs ≡ size) → (c : Count) → made ≡ Ok c
       → listed_outcome [] (length q) c d q ps o ≡ listed_outcome (made_tests u f t) size k d bs ps o
   reading_made long c taken =
       let g = settled-taken making k s bs c q (sym told ∙ ap (λ (y : Answer). outcome y q) taken) in

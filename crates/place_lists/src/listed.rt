@@ -26,15 +26,15 @@ fn listed_answer(count: Count, order: usize, list: usize, output: usize, below: 
     ensures { result ≡ answered (listed_tests order list output below) count }
 {
     if output != list {
-        return Answer::Refused(Refusal::Output);
+        return Err(Refusal::Output);
     }
     if order < list {
-        return Answer::Refused(Refusal::List);
+        return Err(Refusal::List);
     }
     if !below {
-        return Answer::Refused(Refusal::Place);
+        return Err(Refusal::Place);
     }
-    Answer::Taken(count)
+    Ok(count)
 }
 
 // The bytes of the sheet at the places of the list.
@@ -60,10 +60,7 @@ pub fn read_listed(
         ≡ listed_outcome [] (length sheet.now) count order sheet.now list.now output.old }
 {
     let below = all_below(sheet.len(), list);
-    let answer = listed_answer(count, order, list.len(), output.len(), below);
-    let Answer::Taken(_) = answer else {
-        return answer;
-    };
+    listed_answer(count, order, list.len(), output.len(), below)?;
     pick_listed(sheet, list, output);
     answer
 }

@@ -10,8 +10,8 @@ use Rattle.isw.specs.Place.{place_count, product_need, sheet}
 use Rattle.isw.proofs.SheetLaws.{length-sheet}
 use Rattle.outcomes.specs.declared.Refusal.{Refusal}
 use Rattle.outcomes.specs.declared.Count.{Count}
-use Rattle.outcomes.specs.declared.Answer.{Answer}
-use Rattle.outcomes.specs.declared.Answer.TheVariants.{Taken, Refused}
+use Rattle.outcomes.specs.Outcome.{Answer}
+use Rattle.std.specs.Prelude.{Ok, Err}
 use Rattle.outcomes.specs.Outcome.{outcome, took, served, reaches}
 use Rattle.tape_words.specs.Words.{bytes_of, words_for}
 use Rattle.masking.specs.Calls.{two_fit}
@@ -27,14 +27,14 @@ two_fit_both d a b e f = simp (eq-eqb a (suc d) e, eq-eqb b (suc d) f)
 
 -- the sheet was asked for at s, and the answer is `made`, with q at the sheet
 module _ (d : ℕ) (a b ts ps o s q : List ℕ) (made : Answer) (told : outcome made q ≡ sheet_outcome d a b ts s) where
-  pub product_handed : (served d ≡ true → length s ≡ place_count d) → (r : Refusal) → made ≡ Refused r
+  pub product_handed : (served d ≡ true → length s ≡ place_count d) → (r : Refusal) → made ≡ Err r
       → outcome made o ≡ reading_outcome d a b ts ps o
   unfolding reading_outcome sheet_outcome
   product_handed =
       reading_handed (served d) (two_fit d (length a) (length b)) (reaches (length ts) (words_for (product_need d))) (place_count d)
       (took (words_for (product_need d))) d (sheet times d a b (bytes_of ts)) ps o s q made told
 
-  pub product_read : (c : Count) → made ≡ Taken c → listed_outcome [] (length q) c d q ps o ≡ reading_outcome d a b ts ps o
+  pub product_read : (c : Count) → made ≡ Ok c → listed_outcome [] (length q) c d q ps o ≡ reading_outcome d a b ts ps o
   unfolding reading_outcome sheet_outcome
   product_read =
       reading_made (served d) (two_fit d (length a) (length b)) (reaches (length ts) (words_for (product_need d))) (place_count d)

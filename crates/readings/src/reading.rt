@@ -21,7 +21,7 @@ fn read_with(
         ≡ reading_outcome order left.now right.now tape.now list.now output.old }
 {
     let made = sheets::product_sheet(order, left, right, tape, sheet);
-    let Answer::Taken(count) = made else {
+    let Ok(count) = made else {
         return made;
     };
     place_lists::read_listed(count, order, sheet, list, output)

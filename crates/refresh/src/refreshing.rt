@@ -58,12 +58,9 @@ pub fn refresh(order: usize, input: &[u8], tape: &[u32], output: &mut [u8]) -> A
     ensures { outcome result output.new
         ≡ refresh_outcome order input.now tape.now output.old }
 {
-    let answer = shares::answers::byte_answer(1, order, input.len(), tape.len(), output.len());
-    let Answer::Taken(_) = answer else {
-        return answer;
-    };
+    shares::answers::byte_answer(1, order, input.len(), tape.len(), output.len())?;
     shares::bytes::put(input, output);
-    Answer::Taken(Count {
+    Ok(Count {
         taken: refresh_on_words(order, tape, output),
     })
 }

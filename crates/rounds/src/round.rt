@@ -1,7 +1,6 @@
 // One round over shares, of encryption or decryption. FIPS 197, 5.1 and 5.3, decides the order of its steps.
 // The keys have m bytes in each share.
 ghost use Rattle.std.specs.Prelude.{◌≡◌, suc, ◌*◌, ◌+◌, ◌≤◌, length};
-ghost use Rattle.gf256.specs.Tables.{Tables};
 ghost use Rattle.tape_words.specs.Words.{bytes_of};
 ghost use Rattle.shares.specs.Strings.{parts, laid};
 ghost use Rattle.cipher.specs.Cipher.{round_need};
@@ -9,7 +8,7 @@ ghost use Rattle.cipher.specs.Rounds.{round_of, key_of};
 ghost use Rattle.rounds.specs.Fits.{RoundFits};
 ghost use Rattle.rounds.specs.Directions.{shifted_of, keyed_of};
 
-use gf256::{Antilogs, Direction, Logs};
+use gf256::{Direction, Tables};
 use linear::Step;
 
 // Which round key is added i-th, from 0 on.
@@ -25,22 +24,20 @@ pub fn key_number(which: Direction, nr: usize, i: usize) -> usize
 
 // SubBytes, then ShiftRows; in decryption InvShiftRows, then InvSubBytes. Answers with how many words were drawn.
 fn sub_and_shift(
-    logs: &Logs,
-    antilogs: &Antilogs,
+    tables: &Tables,
     which: Direction,
     d: usize,
     tape: &[u32],
     s: &mut [u8],
 ) -> usize
-    requires { (d ≤ 8) × (round_need d ≤ length (bytes_of tape.now)) × (length s.old ≡ suc d * 16) × Tables logs.now antilogs.now }
+    requires { (d ≤ 8) × (round_need d ≤ length (bytes_of tape.now)) × (length s.old ≡ suc d * 16) }
     ensures { (4 * result ≡ round_need d)
         × (s.new ≡ laid (shifted_of which d (parts (suc d) 16 s.old) (bytes_of tape.now))) }
 {
     match which {
         Direction::Forward => {
             let drawn = substitution::boxes::sub_rows(
-                logs,
-                antilogs,
+                tables,
                 Direction::Forward,
                 d,
                 tape,
@@ -51,7 +48,7 @@ fn sub_and_shift(
         }
         Direction::Inverse => {
             linear::steps::step_all(Step::ShiftRows, Direction::Inverse, d, s);
-            substitution::boxes::sub_rows(logs, antilogs, Direction::Inverse, d, tape, s)
+            substitution::boxes::sub_rows(tables, Direction::Inverse, d, tape, s)
         }
     }
 }
@@ -76,8 +73,7 @@ fn mix_and_add(which: Direction, d: usize, m: usize, r: usize, keys: &[u8], s: &
 
 // A round with round key r; the last has no MixColumns. Answers with how many words were drawn.
 pub fn make_round(
-    logs: &Logs,
-    antilogs: &Antilogs,
+    tables: &Tables,
     which: Direction,
     last: bool,
     d: usize,
@@ -87,12 +83,12 @@ pub fn make_round(
     tape: &[u32],
     s: &mut [u8],
 ) -> usize
-    requires { RoundFits d m r keys.now (bytes_of tape.now) s.old × Tables logs.now antilogs.now }
+    requires { RoundFits d m r keys.now (bytes_of tape.now) s.old }
     ensures { (4 * result ≡ round_need d)
         × (s.new
         ≡ laid (round_of which last d r (parts (suc d) m keys.now) (parts (suc d) 16 s.old) (bytes_of tape.now))) }
 {
-    let drawn = sub_and_shift(logs, antilogs, which, d, tape, s);
+    let drawn = sub_and_shift(tables, which, d, tape, s);
     if last {
         linear::steps::add_key(d, m, r, keys, s);
     } else {

@@ -1,6 +1,5 @@
 // The rounds of an encryption or decryption from round keys in shares. The keys have m bytes in each share.
 ghost use Rattle.std.specs.Prelude.{◌≡◌, suc, ◌+◌, ◌*◌};
-ghost use Rattle.gf256.specs.Tables.{Tables};
 ghost use Rattle.tape_words.specs.Words.{bytes_of};
 ghost use Rattle.shares.specs.Strings.{parts, laid};
 ghost use Rattle.cipher.specs.Fips197.{rounds};
@@ -9,12 +8,11 @@ ghost use Rattle.cipher.specs.Rounds.{rounds_of};
 ghost use Rattle.rounds.specs.Fits.{RoundsFit, KeyedFits};
 ghost use Rattle.rounds.specs.Directions.{with_of};
 
-use gf256::{Antilogs, Direction, Logs};
+use gf256::{Direction, Tables};
 
 // The nr rounds. Answers with how many words were drawn.
 fn run_rounds(
-    logs: &Logs,
-    antilogs: &Antilogs,
+    tables: &Tables,
     which: Direction,
     nr: usize,
     d: usize,
@@ -23,7 +21,7 @@ fn run_rounds(
     tape: &[u32],
     s: &mut [u8],
 ) -> usize
-    requires { RoundsFit d m nr keys.now (bytes_of tape.now) s.old × Tables logs.now antilogs.now }
+    requires { RoundsFit d m nr keys.now (bytes_of tape.now) s.old }
     ensures { (4 * result ≡ nr * round_need d)
         × (s.new
         ≡ laid (rounds_of which nr nr 1 d (parts (suc d) m keys.now) (parts (suc d) 16 s.old)
@@ -33,8 +31,7 @@ fn run_rounds(
     for i in 1..nr + 1 {
         let r = crate::round::key_number(which, nr, i);
         at += crate::round::make_round(
-            logs,
-            antilogs,
+            tables,
             which,
             i == nr,
             d,
@@ -51,8 +48,7 @@ fn run_rounds(
 // A block from round keys, share after share: the first round key, and then the rounds, on the state in output. Answers with how many words
 // were drawn.
 pub fn rounds_core(
-    logs: &Logs,
-    antilogs: &Antilogs,
+    tables: &Tables,
     which: Direction,
     nk: usize,
     d: usize,
@@ -61,7 +57,7 @@ pub fn rounds_core(
     tape: &[u32],
     output: &mut [u8],
 ) -> usize
-    requires { KeyedFits nk d keys.now input.now (bytes_of tape.now) output.old × Tables logs.now antilogs.now }
+    requires { KeyedFits nk d keys.now input.now (bytes_of tape.now) output.old }
     ensures { (4 * result ≡ encrypted_with_need nk d)
         × (output.new
         ≡ laid (with_of which nk d (parts (suc d) (16 * suc (rounds nk)) keys.now)
@@ -72,5 +68,5 @@ pub fn rounds_core(
     let first = crate::round::key_number(which, nr, 0);
     shares::bytes::put(input, output);
     linear::steps::add_key(d, m, first, keys, output);
-    run_rounds(logs, antilogs, which, nr, d, m, keys, tape, output)
+    run_rounds(tables, which, nr, d, m, keys, tape, output)
 }

@@ -1,14 +1,13 @@
 // The masked S-box: power 254, then the affine map over shares. The masked inverse S-box: the inverse affine map over shares, then power 254.
 ghost use Rattle.std.specs.Prelude.{◌≡◌, map, ◌%◌, ◌≤◌, ◌<◌, length};
 ghost use Rattle.gf256.specs.Directions.{affine_of, constant_of};
-ghost use Rattle.gf256.specs.Tables.{Tables};
 ghost use Rattle.tape_words.specs.Words.{bytes_of, words_for};
 ghost use Rattle.outcomes.specs.Outcome.{outcome};
 ghost use Rattle.sbox.specs.Box;
 ghost use Rattle.power254.specs.Fits.{PowerFits};
 ghost use Rattle.sbox.specs.Calls.{box_outcome};
 
-use gf256::{Antilogs, Direction, Logs};
+use gf256::{Direction, Tables};
 use outcomes::{Answer, Count};
 
 // The affine map of each share. The shares are taken by a list of their numbers: a compiler that does not know them for neighbours has no use for
@@ -63,65 +62,60 @@ pub fn box_products(d: usize) -> usize
 }
 
 // The S-box of the shares of a byte, in place. Answers with how many bytes were drawn.
-fn box_core(logs: &Logs, antilogs: &Antilogs, d: usize, tape: &[u8], x: &mut [u8]) -> usize
-    requires { PowerFits d x.old tape.now × Tables logs.now antilogs.now }
+fn box_core(tables: &Tables, d: usize, tape: &[u8], x: &mut [u8]) -> usize
+    requires { PowerFits d x.old tape.now }
     ensures { (result ≡ Box.box_need d) × (x.new ≡ Box.box d x.old tape.now) }
 {
-    let drawn = power254::powers::power_core(logs, antilogs, d, tape, x);
+    let drawn = power254::powers::power_core(tables, d, tape, x);
     affine_shares(Direction::Forward, d, x);
     drawn
 }
 
 // The inverse S-box, in the same way.
-fn inverse_box_core(logs: &Logs, antilogs: &Antilogs, d: usize, tape: &[u8], x: &mut [u8]) -> usize
-    requires { PowerFits d x.old tape.now × Tables logs.now antilogs.now }
+fn inverse_box_core(tables: &Tables, d: usize, tape: &[u8], x: &mut [u8]) -> usize
+    requires { PowerFits d x.old tape.now }
     ensures { (result ≡ Box.box_need d) × (x.new ≡ Box.inverse_box d x.old tape.now) }
 {
     affine_shares(Direction::Inverse, d, x);
-    power254::powers::power_core(logs, antilogs, d, tape, x)
+    power254::powers::power_core(tables, d, tape, x)
 }
 
 // The S-box of the direction, in the same way.
 pub fn box_of(
-    logs: &Logs,
-    antilogs: &Antilogs,
+    tables: &Tables,
     which: Direction,
     d: usize,
     tape: &[u8],
     x: &mut [u8],
 ) -> usize
-    requires { PowerFits d x.old tape.now × Tables logs.now antilogs.now }
+    requires { PowerFits d x.old tape.now }
     ensures { (result ≡ Box.box_need d) × (x.new ≡ Box.box_of which d x.old tape.now) }
 {
     match which {
-        Direction::Forward => box_core(logs, antilogs, d, tape, x),
-        Direction::Inverse => inverse_box_core(logs, antilogs, d, tape, x),
+        Direction::Forward => box_core(tables, d, tape, x),
+        Direction::Inverse => inverse_box_core(tables, d, tape, x),
     }
 }
 
 // The S-box on a tape of words. Answers with how many words were drawn.
-fn box_on_words(logs: &Logs, antilogs: &Antilogs, d: usize, tape: &[u32], x: &mut [u8]) -> usize
-    requires { PowerFits d x.old (bytes_of tape.now) × Tables logs.now antilogs.now }
+fn box_on_words(tables: &Tables, d: usize, tape: &[u32], x: &mut [u8]) -> usize
+    requires { PowerFits d x.old (bytes_of tape.now) }
     ensures { (result ≡ words_for (Box.box_need d))
         × (x.new ≡ Box.box d x.old (bytes_of tape.now)) }
 {
     let mut drawn = [0u8; MOST];
     tape_words::unpack(box_need(d), tape, &mut drawn);
-    tape_words::words_for(box_core(logs, antilogs, d, &drawn, x))
+    tape_words::words_for(box_core(tables, d, &drawn, x))
 }
 
 pub fn masked_box(order: usize, input: &[u8], tape: &[u32], output: &mut [u8]) -> Answer
     ensures { outcome result output.new
         ≡ box_outcome order input.now tape.now output.old }
 {
-    let answer = shares::answers::byte_answer(6, order, input.len(), tape.len(), output.len());
-    let Answer::Taken(_) = answer else {
-        return answer;
-    };
+    shares::answers::byte_answer(6, order, input.len(), tape.len(), output.len())?;
     shares::bytes::put(input, output);
-    let logs = gf256::logs();
-    let antilogs = gf256::antilogs();
-    Answer::Taken(Count {
-        taken: box_on_words(&logs, &antilogs, order, tape, output),
+    let tables = Tables::new();
+    Ok(Count {
+        taken: box_on_words(&tables, order, tape, output),
     })
 }

@@ -1,24 +1,22 @@
 // Key expansion over shares, in a buffer of m bytes for each share, whose first 4 * nk are the key.
 ghost use Rattle.std.specs.Prelude.{◌≡◌, map, suc, ◌*◌, ◌-◌, ◌≤◌, length, take};
-ghost use Rattle.gf256.specs.Tables.{Tables};
 ghost use Rattle.tape_words.specs.Words.{bytes_of};
 ghost use Rattle.shares.specs.Strings.{parts, laid};
 ghost use Rattle.cipher.specs.Cipher.{schedule_from, schedule_from_need, schedule, schedule_need};
 ghost use Rattle.schedule.specs.Stored.{written, ExpandFits, ExpansionFits};
 
-use gf256::{Antilogs, Logs};
+use gf256::Tables;
 
 // All words from nk on, ascending. Answers with how many words were drawn.
 fn expand(
-    logs: &Logs,
-    antilogs: &Antilogs,
+    tables: &Tables,
     nk: usize,
     d: usize,
     total: usize,
     tape: &[u32],
     keys: &mut [u8],
 ) -> usize
-    requires { ExpandFits nk d total keys.old (bytes_of tape.now) × Tables logs.now antilogs.now }
+    requires { ExpandFits nk d total keys.old (bytes_of tape.now) }
     ensures { (4 * result ≡ schedule_from_need (total - nk) nk nk d)
         × (written d total total keys.new
         ≡ schedule_from (total - nk) nk nk d (written d total nk keys.old) (bytes_of tape.now)) }
@@ -26,7 +24,7 @@ fn expand(
     let m = 4 * total;
     let mut at: usize = 0;
     for i in nk..total {
-        at += crate::word::next_word(logs, antilogs, nk, d, m, i, &tape[at..], keys);
+        at += crate::word::next_word(tables, nk, d, m, i, &tape[at..], keys);
     }
     at
 }
@@ -47,19 +45,18 @@ fn copy_key(d: usize, l: usize, m: usize, key: &[u8], keys: &mut [u8])
 
 // The round keys in shares, share after share. Answers with how many words were drawn.
 pub fn expand_core(
-    logs: &Logs,
-    antilogs: &Antilogs,
+    tables: &Tables,
     nk: usize,
     d: usize,
     key: &[u8],
     tape: &[u32],
     keys: &mut [u8],
 ) -> usize
-    requires { ExpansionFits nk d key.now keys.old (bytes_of tape.now) × Tables logs.now antilogs.now }
+    requires { ExpansionFits nk d key.now keys.old (bytes_of tape.now) }
     ensures { (4 * result ≡ schedule_need nk d)
         × (keys.new ≡ laid (schedule nk d (parts (suc d) (4 * nk) key.now) (bytes_of tape.now))) }
 {
     let total = 4 * (nk + 7);
     copy_key(d, 4 * nk, 4 * total, key, keys);
-    expand(logs, antilogs, nk, d, total, tape, keys)
+    expand(tables, nk, d, total, tape, keys)
 }

@@ -2,7 +2,6 @@
 ghost use Rattle.std.specs.Prelude.{◌≡◌, ◌++◌, suc, ◌+◌, ◌*◌, ◌-◌, ◌/◌, ◌≤◌, length, take, drop};
 ghost use Rattle.xor.specs.Sums.{xors};
 ghost use Rattle.gf256.specs.Field.{power};
-ghost use Rattle.gf256.specs.Tables.{Tables};
 ghost use Rattle.tape_words.specs.Words.{bytes_of};
 ghost use Rattle.shares.specs.Strings.{parts, laid};
 ghost use Rattle.cipher.specs.Fips197.{Kind, kind, word};
@@ -10,7 +9,7 @@ ghost use Rattle.cipher.specs.States.{each_by};
 ghost use Rattle.cipher.specs.Cipher.{subs_need, in_word, words, masked_temp, temp_need};
 ghost use Rattle.schedule.specs.Stored.{stored, word_stored, StoreFits, TurnedFits, TempFits, WordFits};
 
-use gf256::{Antilogs, Logs};
+use gf256::Tables;
 
 // The first byte of Rcon[j]: 02 to the power j - 1.
 fn rcon(j: usize) -> u8
@@ -67,18 +66,17 @@ fn store_all(nk: usize, d: usize, m: usize, i: usize, t: &[u8], keys: &mut [u8])
 
 // The temporary word where i is a multiple of nk: S-boxes, RotWord, and Rcon into share 0. Answers with how many words were drawn.
 fn turned_temp(
-    logs: &Logs,
-    antilogs: &Antilogs,
+    tables: &Tables,
     d: usize,
     j: usize,
     tape: &[u32],
     t: &mut [u8],
 ) -> usize
-    requires { TurnedFits d j (bytes_of tape.now) t.old × Tables logs.now antilogs.now }
+    requires { TurnedFits d j (bytes_of tape.now) t.old }
     ensures { (4 * result ≡ subs_need d in_word)
         × (t.new ≡ laid (masked_temp d Kind.turned j (parts (suc d) 4 t.old) (bytes_of tape.now))) }
 {
-    let drawn = substitution::boxes::sub_word(logs, antilogs, d, tape, t);
+    let drawn = substitution::boxes::sub_word(tables, d, tape, t);
     linear::steps::rot_all(d, t);
     t[0] = t[0] ^ rcon(j);
     drawn
@@ -86,25 +84,24 @@ fn turned_temp(
 
 // The temporary word as word i wants it. Answers with how many words were drawn.
 fn make_temp(
-    logs: &Logs,
-    antilogs: &Antilogs,
+    tables: &Tables,
     nk: usize,
     d: usize,
     i: usize,
     tape: &[u32],
     t: &mut [u8],
 ) -> usize
-    requires { TempFits nk d i (bytes_of tape.now) t.old × Tables logs.now antilogs.now }
+    requires { TempFits nk d i (bytes_of tape.now) t.old }
     ensures { (4 * result ≡ temp_need d (kind nk i))
         × (t.new ≡ laid (masked_temp d (kind nk i) (i / nk) (parts (suc d) 4 t.old) (bytes_of tape.now))) }
 {
     let left = i % nk;
     if left == 0 {
-        return turned_temp(logs, antilogs, d, i / nk, tape, t);
+        return turned_temp(tables, d, i / nk, tape, t);
     }
     if nk > 6 {
         if left == 4 {
-            return substitution::boxes::sub_word(logs, antilogs, d, tape, t);
+            return substitution::boxes::sub_word(tables, d, tape, t);
         }
     }
     0
@@ -112,8 +109,7 @@ fn make_temp(
 
 // Word i in all shares. Answers with how many words were drawn.
 pub fn next_word(
-    logs: &Logs,
-    antilogs: &Antilogs,
+    tables: &Tables,
     nk: usize,
     d: usize,
     m: usize,
@@ -121,7 +117,7 @@ pub fn next_word(
     tape: &[u32],
     keys: &mut [u8],
 ) -> usize
-    requires { WordFits nk d m i keys.old (bytes_of tape.now) × Tables logs.now antilogs.now }
+    requires { WordFits nk d m i keys.old (bytes_of tape.now) }
     ensures { (4 * result ≡ temp_need d (kind nk i))
         × (keys.new ≡ word_stored nk d m i keys.old (bytes_of tape.now)) }
 {
@@ -129,7 +125,7 @@ pub fn next_word(
     let n = (d + 1) * 4;
     let t = &mut room[0..n];
     fetch(d, m, i - 1, keys, t);
-    let drawn = make_temp(logs, antilogs, nk, d, i, tape, t);
+    let drawn = make_temp(tables, nk, d, i, tape, t);
     store_all(nk, d, m, i, t, keys);
     drawn
 }

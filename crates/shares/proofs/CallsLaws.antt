@@ -7,8 +7,8 @@ use lib.Dec.{ltb, eqb}
 use borrow.Author.Tests.{eqb-true, ltb-true}
 use Rattle.outcomes.specs.declared.Refusal.TheVariants.{Order, Input, Output, Tape}
 use Rattle.outcomes.specs.declared.Count.{Count}
-use Rattle.outcomes.specs.declared.Answer.{Answer}
-use Rattle.outcomes.specs.declared.Answer.TheVariants.{Taken}
+use Rattle.outcomes.specs.Outcome.{Answer}
+use Rattle.std.specs.Prelude.{Ok}
 use Rattle.outcomes.specs.Outcome.{Test, test, answered, took, served, reaches, share_length}
 use Rattle.tape_words.specs.Words.{words_for}
 use Rattle.shares.specs.Strings.{split_need}
@@ -41,7 +41,7 @@ pub input-passed : (room need d x t o : ℕ) → Passed (input_tests room need d
 input-passed room need d x t o (u and i and r and n and p) =
     record { order = (served_bounds d u).1; input = eqb-true x (suc d) i; output = eqb-true o room r; drawn = reaches_le t need n }
 
-pub input_through : (room need d x t o : ℕ) (a : Answer) (c : Count) → a ≡ answered (input_tests room need d x t o) (took need) → a ≡ Taken c
+pub input_through : (room need d x t o : ℕ) (a : Answer) (c : Count) → a ≡ answered (input_tests room need d x t o) (took need) → a ≡ Ok c
     → InputThrough room need d x t o
 input_through room need d x t o a c e f = input-passed room need d x t o (answered-taken _ _ c (sym e ∙ f)).0
 
@@ -78,7 +78,7 @@ pub split-passed : (d x t o : ℕ) → Passed (split_tests d x t o) → SplitThr
 split-passed d x t o (u and i and r and n and p) =
     record { order = (served_bounds d u).1; input = ltb-true 0 (share_length 1 x) i; output = eqb-true o _ r; drawn = reaches_le t _ n }
 
-pub split_through : (d x t o : ℕ) (a : Answer) (k c : Count) → a ≡ answered (split_tests d x t o) k → a ≡ Taken c → SplitThrough d x t o
+pub split_through : (d x t o : ℕ) (a : Answer) (k c : Count) → a ≡ answered (split_tests d x t o) k → a ≡ Ok c → SplitThrough d x t o
 split_through d x t o a k c e f = split-passed d x t o (answered-taken _ k c (sym e ∙ f)).0
 
 pub record JoinThrough (d x o : ℕ) : Type 0 where
@@ -90,5 +90,5 @@ pub join_passed : (d x o : ℕ) → Passed (join_tests d x o) → JoinThrough d 
 join_passed d x o (u and i and r and p) =
     record { order = (served_bounds d u).1; input = ltb-true 0 (share_length (suc d) x) i; output = eqb-true o _ r }
 
-pub join_through : (d x o : ℕ) (a : Answer) (k c : Count) → a ≡ answered (join_tests d x o) k → a ≡ Taken c → JoinThrough d x o
+pub join_through : (d x o : ℕ) (a : Answer) (k c : Count) → a ≡ answered (join_tests d x o) k → a ≡ Ok c → JoinThrough d x o
 join_through d x o a k c e f = join_passed d x o (answered-taken _ k c (sym e ∙ f)).0

@@ -22,19 +22,19 @@ pub fn input_answer(
         (took (words_for (each * pair_count (suc order)))) }
 {
     if !asked::served(order) {
-        return Answer::Refused(Refusal::Order);
+        return Err(Refusal::Order);
     }
     if input != order + 1 {
-        return Answer::Refused(Refusal::Input);
+        return Err(Refusal::Input);
     }
     if output != room {
-        return Answer::Refused(Refusal::Output);
+        return Err(Refusal::Output);
     }
     let need = tape_words::words_for(each * pairs::counting::pair_count(order));
     if tape < need {
-        return Answer::Refused(Refusal::Tape);
+        return Err(Refusal::Tape);
     }
-    Answer::Taken(Count { taken: need })
+    Ok(Count { taken: need })
 }
 
 // The same where it puts out shares of one byte: a refresh, which draws one byte for each pair, and an S-box, which draws six.

@@ -36,26 +36,20 @@ fn join_answer(order: usize, input: usize, output: usize) -> Answer
     ensures { result ≡ answered (join_tests order input output) (took 0) }
 {
     if !asked::served(order) {
-        return Answer::Refused(Refusal::Order);
+        return Err(Refusal::Order);
     }
-    let l = asked::share_length(order + 1, input);
-    if l == 0 {
-        return Answer::Refused(Refusal::Input);
-    }
+    let l = asked::share_length(order + 1, input).ok_or(Refusal::Input)?;
     if output != l {
-        return Answer::Refused(Refusal::Output);
+        return Err(Refusal::Output);
     }
-    Answer::Taken(Count { taken: 0 })
+    Ok(Count { taken: 0 })
 }
 
 // The string that the shares join to. It draws nothing.
 pub fn join(order: usize, input: &[u8], output: &mut [u8]) -> Answer
     ensures { outcome result output.new ≡ join_outcome order input.now output.old }
 {
-    let answer = join_answer(order, input.len(), output.len());
-    let Answer::Taken(_) = answer else {
-        return answer;
-    };
+    join_answer(order, input.len(), output.len())?;
     join_core(order, output.len(), input, output);
-    Answer::Taken(Count { taken: 0 })
+    Ok(Count { taken: 0 })
 }

@@ -39,20 +39,17 @@ fn split_answer(order: usize, input: usize, tape: usize, output: usize) -> Answe
     ensures { result ≡ answered (split_tests order input tape output) (took (words_for (split_need order (share_length 1 input)))) }
 {
     if !asked::served(order) {
-        return Answer::Refused(Refusal::Order);
+        return Err(Refusal::Order);
     }
-    let l = asked::share_length(1, input);
-    if l == 0 {
-        return Answer::Refused(Refusal::Input);
-    }
+    let l = asked::share_length(1, input).ok_or(Refusal::Input)?;
     if output != (order + 1) * l {
-        return Answer::Refused(Refusal::Output);
+        return Err(Refusal::Output);
     }
     let need = tape_words::words_for(order * l);
     if tape < need {
-        return Answer::Refused(Refusal::Tape);
+        return Err(Refusal::Tape);
     }
-    Answer::Taken(Count { taken: need })
+    Ok(Count { taken: need })
 }
 
 // The same on a tape of words: at most 8 masks of 32 bytes. Answers with how many words were drawn.
@@ -70,11 +67,8 @@ pub fn split(order: usize, input: &[u8], tape: &[u32], output: &mut [u8]) -> Ans
     ensures { outcome result output.new
         ≡ split_outcome order input.now tape.now output.old }
 {
-    let answer = split_answer(order, input.len(), tape.len(), output.len());
-    let Answer::Taken(_) = answer else {
-        return answer;
-    };
-    Answer::Taken(Count {
+    split_answer(order, input.len(), tape.len(), output.len())?;
+    Ok(Count {
         taken: split_on_words(order, input, tape, output),
     })
 }

@@ -3,7 +3,6 @@
 ghost use Rattle.std.specs.Prelude.{◌≡◌, ◌+◌, ◌*◌, ◌≤◌, length};
 ghost use Rattle.xor.specs.Lists.{at};
 ghost use Rattle.xor.specs.Running.{running, owns};
-ghost use Rattle.gf256.specs.Tables.{Tables};
 ghost use Rattle.xor.specs.Writes.{front};
 ghost use Rattle.masking.specs.Steps as Steps;
 ghost use Rattle.masking.specs.Fits.{RowFits, RowsFit};
@@ -11,7 +10,7 @@ ghost use Rattle.sheet_parts.specs.Fits.{PairsFit};
 ghost use Rattle.sheet_parts.specs.Parts.{bytes_of, five_rows, row_bytes, starts_put, row_put, table_rows};
 
 use crate::Pair;
-use gf256::{Antilogs, Logs};
+use gf256::Tables;
 
 // The five bytes of a pair, over the front of out. It is a call of its own in the built library too: inlined, the loop over pairs becomes one over
 // vectors, in whose registers bytes of two places are ORed.
@@ -82,8 +81,7 @@ fn put_sums(i: usize, w: usize, own: &[u8], sums: &[u8], table: &mut [u8])
 // Row i of the pairs as the product takes it, over the front of out, and share i's own running sums, over the front of own.
 // Answers with how many bytes were drawn.
 fn pairs_row(
-    logs: &Logs,
-    antilogs: &Antilogs,
+    tables: &Tables,
     i: usize,
     w: usize,
     a: &[u8],
@@ -93,7 +91,7 @@ fn pairs_row(
     sums: &mut [u8],
     out: &mut [u8],
 ) -> usize
-    requires { PairsFit i w a.now b.now tape.now own.old sums.old out.old × Tables logs.now antilogs.now }
+    requires { PairsFit i w a.now b.now tape.now own.old sums.old out.old }
     ensures { (result ≡ w) × (out.new ≡ front (row_bytes a.now b.now tape.now i w) out.old)
         × (own.new ≡ front (owns tape.now sums.old i w) own.old)
         × (sums.new ≡ Steps.pairs_taken a.now b.now tape.now i w sums.old) }
@@ -103,7 +101,7 @@ fn pairs_row(
     let mut lower = [0u8; 8];
     let mut back = [0u8; 8];
     let drawn = masking::steps::take_row(
-        logs, antilogs, i, w, a, b, tape, &mut upper, &mut half, &mut lower, &mut back, own, sums,
+        tables, i, w, a, b, tape, &mut upper, &mut half, &mut lower, &mut back, own, sums,
     );
     put_row(w, tape, &upper, &half, &lower, &back, out);
     drawn
@@ -111,8 +109,7 @@ fn pairs_row(
 
 // Row i of the pairs, over the front of out, and what it made of the running sums, into the table. Answers with how many bytes were drawn.
 pub fn sheet_row(
-    logs: &Logs,
-    antilogs: &Antilogs,
+    tables: &Tables,
     i: usize,
     w: usize,
     a: &[u8],
@@ -123,7 +120,7 @@ pub fn sheet_row(
     out: &mut [u8],
 ) -> usize
     requires { RowFits i w a.now b.now tape.now sums.old × (length table.old ≡ 81)
-        × (5 * w ≤ length out.old) × Tables logs.now antilogs.now }
+        × (5 * w ≤ length out.old) }
     ensures { (result ≡ w)
         × (out.new ≡ front (row_bytes a.now b.now tape.now i w) out.old)
         × (sums.new ≡ Steps.pairs_taken a.now b.now tape.now i w sums.old)
@@ -132,7 +129,7 @@ pub fn sheet_row(
         (at sums.new) table.old w) }
 {
     let mut own = [0u8; 8];
-    let drawn = pairs_row(logs, antilogs, i, w, a, b, tape, &mut own, sums, out);
+    let drawn = pairs_row(tables, i, w, a, b, tape, &mut own, sums, out);
     put_sums(i, w, &own, sums, table);
     drawn
 }

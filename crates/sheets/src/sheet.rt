@@ -2,7 +2,6 @@
 // routines left. Document 01, "Places in one product", decides.
 ghost use Rattle.std.specs.Prelude.{◌≡◌, true, suc, ◌*◌, ◌≤◌, length};
 ghost use Rattle.gf256.specs.Field as Field;
-ghost use Rattle.gf256.specs.Tables.{Tables};
 ghost use Rattle.isw.specs.Place as Place;
 ghost use Rattle.outcomes.specs.Outcome as Outcome;
 ghost use Rattle.tape_words.specs.Words.{bytes_of, words_for};
@@ -13,7 +12,7 @@ ghost use Rattle.sheets.specs.Fits.{RoomFits};
 ghost use Rattle.sheet_parts.specs.Parts.{pairs_before, sums_before, table_rows};
 ghost use Rattle.sheets.specs.Calls.{sheet_outcome};
 
-use gf256::{Antilogs, Logs};
+use gf256::Tables;
 use outcomes::{Answer, Count};
 
 // P(d), how many places there are.
@@ -37,8 +36,7 @@ pub fn sheet_size(order: usize) -> usize
 
 // All pairs, over the front of out, and all running sums, into the table, with room for n sums. Answers with how many bytes were drawn.
 fn sheet_rows(
-    logs: &Logs,
-    antilogs: &Antilogs,
+    tables: &Tables,
     d: usize,
     a: &[u8],
     b: &[u8],
@@ -48,21 +46,20 @@ fn sheet_rows(
     out: &mut [u8],
 ) -> usize
     requires { FactorsFit d a.now b.now tape.now × RoomFits d sums.old table.old
-        × (5 * Place.product_need d ≤ length out.old) × Tables logs.now antilogs.now }
+        × (5 * Place.product_need d ≤ length out.old) }
     ensures { (result ≡ Place.product_need d)
         × (out.new ≡ front (pairs_before (suc d) a.now b.now tape.now (suc d)) out.old)
         × (table_rows (suc d) table.new (suc d)
         ≡ sums_before (suc d) a.now b.now tape.now (suc d)) }
 {
     let n = d + 1;
-    masking::steps::start_sums(logs, antilogs, n, a, b, sums);
+    masking::steps::start_sums(tables, n, a, b, sums);
     sheet_parts::parts::put_starts(n, sums, table);
     let mut drawn: usize = 0;
     for i in 0..d {
         let at = 5 * drawn;
         drawn += sheet_parts::parts::sheet_row(
-            logs,
-            antilogs,
+            tables,
             i,
             d - i,
             a,
@@ -78,8 +75,7 @@ fn sheet_rows(
 
 // The whole sheet, with room for n sums and a table. Answers with how many bytes were drawn.
 fn sheet_with(
-    logs: &Logs,
-    antilogs: &Antilogs,
+    tables: &Tables,
     d: usize,
     a: &[u8],
     b: &[u8],
@@ -89,7 +85,7 @@ fn sheet_with(
     out: &mut [u8],
 ) -> usize
     requires { FactorsFit d a.now b.now tape.now × RoomFits d sums.old table.old
-        × (length out.old ≡ Place.place_count d) × Tables logs.now antilogs.now }
+        × (length out.old ≡ Place.place_count d) }
     ensures { (result ≡ Place.product_need d)
         × (out.new ≡ Place.sheet Field.times d a.now b.now tape.now) }
 {
@@ -98,8 +94,7 @@ fn sheet_with(
     shares::bytes::put(b, &mut out[n..]);
     let pairs = 2 * n;
     let drawn = sheet_rows(
-        logs,
-        antilogs,
+        tables,
         d,
         a,
         b,
@@ -115,16 +110,14 @@ fn sheet_with(
 
 // The whole sheet. Answers with how many bytes were drawn.
 pub fn sheet_core(
-    logs: &Logs,
-    antilogs: &Antilogs,
+    tables: &Tables,
     d: usize,
     a: &[u8],
     b: &[u8],
     tape: &[u8],
     out: &mut [u8],
 ) -> usize
-    requires { FactorsFit d a.now b.now tape.now × (length out.old ≡ Place.place_count d)
-        × Tables logs.now antilogs.now }
+    requires { FactorsFit d a.now b.now tape.now × (length out.old ≡ Place.place_count d) }
     ensures { (result ≡ Place.product_need d)
         × (out.new ≡ Place.sheet Field.times d a.now b.now tape.now) }
 {
@@ -132,8 +125,7 @@ pub fn sheet_core(
     let mut table = [0u8; 81];
     let n = d + 1;
     sheet_with(
-        logs,
-        antilogs,
+        tables,
         d,
         a,
         b,
@@ -146,22 +138,20 @@ pub fn sheet_core(
 
 // The same on a tape of words. Answers with how many words were drawn.
 fn sheet_on_words(
-    logs: &Logs,
-    antilogs: &Antilogs,
+    tables: &Tables,
     d: usize,
     a: &[u8],
     b: &[u8],
     tape: &[u32],
     out: &mut [u8],
 ) -> usize
-    requires { FactorsFit d a.now b.now (bytes_of tape.now) × (length out.old ≡ Place.place_count d)
-        × Tables logs.now antilogs.now }
+    requires { FactorsFit d a.now b.now (bytes_of tape.now) × (length out.old ≡ Place.place_count d) }
     ensures { (result ≡ words_for (Place.product_need d))
         × (out.new ≡ Place.sheet Field.times d a.now b.now (bytes_of tape.now)) }
 {
     let mut drawn = [0u8; 36];
     tape_words::unpack(masking::product::product_need(d), tape, &mut drawn);
-    tape_words::words_for(sheet_core(logs, antilogs, d, a, b, &drawn, out))
+    tape_words::words_for(sheet_core(tables, d, a, b, &drawn, out))
 }
 
 pub fn product_sheet(
@@ -174,20 +164,16 @@ pub fn product_sheet(
     ensures { outcome result output.new
         ≡ sheet_outcome order left.now right.now tape.now output.old }
 {
-    let answer = masking::product::factors_answer(
+    masking::product::factors_answer(
         sheet_size(order),
         order,
         left.len(),
         right.len(),
         tape.len(),
         output.len(),
-    );
-    let Answer::Taken(_) = answer else {
-        return answer;
-    };
-    let logs = gf256::logs();
-    let antilogs = gf256::antilogs();
-    Answer::Taken(Count {
-        taken: sheet_on_words(&logs, &antilogs, order, left, right, tape, output),
+    )?;
+    let tables = Tables::new();
+    Ok(Count {
+        taken: sheet_on_words(&tables, order, left, right, tape, output),
     })
 }

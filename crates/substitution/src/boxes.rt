@@ -2,19 +2,17 @@
 // the unit: a word, or a row of a state. They draw whole words of the tape (document 02, wish 6), and so does all that is made of them: `sub_four`
 // unpacks its words, below it S-boxes draw bytes without a gap, and from it upwards functions count words.
 ghost use Rattle.std.specs.Prelude.{◌≡◌, suc, ◌*◌, ◌≤◌, length};
-ghost use Rattle.gf256.specs.Tables.{Tables};
 ghost use Rattle.tape_words.specs.Words.{bytes_of};
 ghost use Rattle.shares.specs.Strings.{parts, laid};
 ghost use Rattle.sbox.specs.Box.{box_need};
 ghost use Rattle.cipher.specs.Cipher.{sub_at, subs, subs_of, subs_need, by_rows, in_word};
 ghost use Rattle.substitution.specs.Boxes.{spaced, PlaceFits, FourFits};
 
-use gf256::{Antilogs, Direction, Logs};
+use gf256::{Direction, Tables};
 
 // The S-box of byte k. Answers with how many bytes were drawn.
 fn sub_place(
-    logs: &Logs,
-    antilogs: &Antilogs,
+    tables: &Tables,
     which: Direction,
     d: usize,
     l: usize,
@@ -22,7 +20,7 @@ fn sub_place(
     tape: &[u8],
     s: &mut [u8],
 ) -> usize
-    requires { PlaceFits d l k tape.now s.old × Tables logs.now antilogs.now }
+    requires { PlaceFits d l k tape.now s.old }
     ensures { (result ≡ box_need d)
         × (s.new ≡ laid (sub_at which d k (parts (suc d) l s.old) tape.now)) }
 {
@@ -30,7 +28,7 @@ fn sub_place(
     let n = d + 1;
     let x = &mut room[0..n];
     crate::bytes::gather(d, l, k, s, x);
-    let drawn = sbox::boxes::box_of(logs, antilogs, which, d, tape, x);
+    let drawn = sbox::boxes::box_of(tables, which, d, tape, x);
     crate::bytes::scatter(d, l, k, x, s);
     drawn
 }
@@ -38,8 +36,7 @@ fn sub_place(
 // The S-boxes of four bytes, a quarter of the string apart: the first, and the next each `stride` further. Answers with how many bytes were drawn.
 // Their number is worked out, not written as 4: the compiler unrolls a loop of 4 here, and the function is then too long to be inlined.
 fn sub_spaced(
-    logs: &Logs,
-    antilogs: &Antilogs,
+    tables: &Tables,
     which: Direction,
     d: usize,
     l: usize,
@@ -48,7 +45,7 @@ fn sub_spaced(
     tape: &[u8],
     s: &mut [u8],
 ) -> usize
-    requires { FourFits d l first stride tape.now s.old × Tables logs.now antilogs.now }
+    requires { FourFits d l first stride tape.now s.old }
     ensures { (result ≡ subs_need d (spaced first stride))
         × (s.new ≡ laid (subs_of which d (spaced first stride) (parts (suc d) l s.old) tape.now)) }
 {
@@ -56,15 +53,14 @@ fn sub_spaced(
     let n = l / stride;
     for m in 0..n {
         let k = first + m * stride;
-        at += sub_place(logs, antilogs, which, d, l, k, &tape[at..], s);
+        at += sub_place(tables, which, d, l, k, &tape[at..], s);
     }
     at
 }
 
 // The same on a tape of words. Answers with how many words were drawn.
 fn sub_four(
-    logs: &Logs,
-    antilogs: &Antilogs,
+    tables: &Tables,
     which: Direction,
     d: usize,
     l: usize,
@@ -73,42 +69,39 @@ fn sub_four(
     tape: &[u32],
     s: &mut [u8],
 ) -> usize
-    requires { FourFits d l first stride (bytes_of tape.now) s.old × Tables logs.now antilogs.now }
+    requires { FourFits d l first stride (bytes_of tape.now) s.old }
     ensures { (4 * result ≡ subs_need d (spaced first stride))
         × (s.new ≡ laid (subs_of which d (spaced first stride) (parts (suc d) l s.old) (bytes_of tape.now))) }
 {
     let mut drawn = [0u8; 4 * sbox::boxes::MOST];
     tape_words::unpack(4 * sbox::boxes::box_need(d), tape, &mut drawn);
-    sub_spaced(logs, antilogs, which, d, l, first, stride, &drawn, s) / 4
+    sub_spaced(tables, which, d, l, first, stride, &drawn, s) / 4
 }
 
 // The S-boxes of a state, row by row. Answers with how many words were drawn.
 pub fn sub_rows(
-    logs: &Logs,
-    antilogs: &Antilogs,
+    tables: &Tables,
     which: Direction,
     d: usize,
     tape: &[u32],
     s: &mut [u8],
 ) -> usize
-    requires { (d ≤ 8) × (length s.old ≡ suc d * 16) × (subs_need d by_rows ≤ length (bytes_of tape.now))
-        × Tables logs.now antilogs.now }
+    requires { (d ≤ 8) × (length s.old ≡ suc d * 16) × (subs_need d by_rows ≤ length (bytes_of tape.now)) }
     ensures { (4 * result ≡ subs_need d by_rows)
         × (s.new ≡ laid (subs_of which d by_rows (parts (suc d) 16 s.old) (bytes_of tape.now))) }
 {
     let mut at: usize = 0;
     for r in 0..4 {
-        at += sub_four(logs, antilogs, which, d, 16, r, 4, &tape[at..], s);
+        at += sub_four(tables, which, d, 16, r, 4, &tape[at..], s);
     }
     at
 }
 
 // The S-boxes of a word. Answers with how many words were drawn.
-pub fn sub_word(logs: &Logs, antilogs: &Antilogs, d: usize, tape: &[u32], s: &mut [u8]) -> usize
-    requires { (d ≤ 8) × (length s.old ≡ suc d * 4) × (subs_need d in_word ≤ length (bytes_of tape.now))
-        × Tables logs.now antilogs.now }
+pub fn sub_word(tables: &Tables, d: usize, tape: &[u32], s: &mut [u8]) -> usize
+    requires { (d ≤ 8) × (length s.old ≡ suc d * 4) × (subs_need d in_word ≤ length (bytes_of tape.now)) }
     ensures { (4 * result ≡ subs_need d in_word)
         × (s.new ≡ laid (subs d in_word (parts (suc d) 4 s.old) (bytes_of tape.now))) }
 {
-    sub_four(logs, antilogs, Direction::Forward, d, 4, 0, 1, tape, s)
+    sub_four(tables, Direction::Forward, d, 4, 0, 1, tape, s)
 }

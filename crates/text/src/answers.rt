@@ -45,20 +45,20 @@ pub fn print_taken(count: Count) {
 // An answer, with the output where the call was carried through.
 pub fn print(a: Answer, output: &[u8]) {
     match a {
-        Answer::Taken(count) => {
+        Ok(count) => {
             crate::print(b"output ");
             hexadecimal::print(output);
             crate::print(b"\n");
             print_taken(count)
         }
-        Answer::Refused(r) => print_refused(r),
+        Err(r) => print_refused(r),
     }
 }
 
 // The same of a call on prepared keys.
 pub fn print_on_prepared(a: Answer, output: &[u8]) {
     match a {
-        Answer::Refused(r) => print_refused_on_prepared(r),
+        Err(r) => print_refused_on_prepared(r),
         _ => print(a, output),
     }
 }
@@ -66,7 +66,7 @@ pub fn print_on_prepared(a: Answer, output: &[u8]) {
 // The same of a reading of the cube.
 pub fn print_on_cube(a: Answer, output: &[u8]) {
     match a {
-        Answer::Refused(r) => print_refused_on_cube(r),
+        Err(r) => print_refused_on_cube(r),
         _ => print(a, output),
     }
 }
@@ -74,15 +74,15 @@ pub fn print_on_cube(a: Answer, output: &[u8]) {
 // What a call would answer. It has no output yet.
 pub fn print_foretold(a: Answer) {
     match a {
-        Answer::Taken(count) => print_taken(count),
-        Answer::Refused(r) => print_refused(r),
+        Ok(count) => print_taken(count),
+        Err(r) => print_refused(r),
     }
 }
 
 // The same of a call on prepared keys.
 pub fn print_foretold_on_prepared(a: Answer) {
     match a {
-        Answer::Refused(r) => print_refused_on_prepared(r),
+        Err(r) => print_refused_on_prepared(r),
         _ => print_foretold(a),
     }
 }

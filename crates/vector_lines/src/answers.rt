@@ -11,11 +11,11 @@ pub struct Came {
 
 pub fn of(a: Answer) -> Came {
     match a {
-        Answer::Taken(count) => Came {
+        Ok(count) => Came {
             served: true,
             number: count.taken,
         },
-        Answer::Refused(r) => Came {
+        Err(r) => Came {
             served: false,
             number: outcomes::asked::number(r) as usize,
         },

@@ -1,19 +1,17 @@
 // The field's two products on all bytes: by logs and antilogs, as the masked routines multiply, and by shifts from the top bit.
-ghost use Rattle.gf256.specs.Tables.{Tables};
 
-use gf256::{Antilogs, Logs};
+use gf256::Tables;
 use vector_lines::counts;
 use vector_lines::counts::Tally;
 
 // For how many of the 65,536 pairs of bytes the two differ.
-fn count_different(logs: &Logs, antilogs: &Antilogs) -> u64
-    requires { Tables logs.now antilogs.now }
+fn count_different(tables: &Tables) -> u64
 {
     let mut different: u64 = 0;
     for k in 0usize..65536 {
         let a = (k / 256) as u8;
         let b = (k % 256) as u8;
-        if gf256::table_product::table_times(logs, antilogs, a, b) != gf256::times(a, b) {
+        if tables.times(a, b) != gf256::times(a, b) {
             different = std::num::wrapping_add_u64(different, 1);
         }
     }
@@ -22,9 +20,8 @@ fn count_different(logs: &Logs, antilogs: &Antilogs) -> u64
 
 // The first comparisons of all.
 pub fn compare() -> Tally {
-    let logs = gf256::logs();
-    let antilogs = gf256::antilogs();
-    let different = count_different(&logs, &antilogs);
+    let tables = Tables::new();
+    let different = count_different(&tables);
     text::print(b"products of all bytes, by logs and by shifts: ");
     counts::print(65536, different);
     Tally {

@@ -2,9 +2,8 @@
 use mathlib.Core.Path.{ap, ◌∙◌}
 use Prim.Native.Nat.{ℕ}
 use lib.ListN.{length}
-use Rattle.gf256.specs.Tables.{lent}
 use Rattle.outcomes.specs.Outcome.{took}
-use Rattle.outcomes.proofs.OutcomeLaws.{settled-refused, settled-done}
+use Rattle.outcomes.proofs.OutcomeLaws.{settled-handed, settled-done}
 use Rattle.tape_words.specs.Words.{bytes_of, words_for}
 use Rattle.tape_words.proofs.WordsLaws.{words_reach, whole_words}
 use Rattle.cipher.specs.Cipher.{encrypted_with_need, encrypted_with_laid}
@@ -15,9 +14,9 @@ use Rattle.aes.specs.Calls.{encrypt_prepared_outcome}
 use Rattle.aes.proofs.CallsLaws.{prepared_keys_length, encrypted_with-made}
 use Rattle.aes.proofs.preparation.encrypt_prepared.Goals as goal
 
-pub returns-in_default : goal.returns-in_default
+pub returns-in_err-prepared_answer : goal.returns-in_err-prepared_answer
 unfolding encrypt_prepared_outcome
-returns-in_default c = settled-refused _ _ _ _ _ c.prepared_answer-answer.ensures _ c.in_default.is
+returns-in_err-prepared_answer c = settled-handed _ _ _ _ _ c.prepared_answer.ensures _ c.in_err-prepared_answer.was _ c.from_residual.ensures.1
 
 pub prepared_words-nk-requires : goal.prepared_words-nk-requires
 prepared_words-nk-requires c =
@@ -25,7 +24,7 @@ prepared_words-nk-requires c =
     let nk = prepared_words a.order (length a.prepared.now) in
     (block_through nk (words_for (encrypted_with_need nk a.order)) a.order (length a.input.now) (length a.tape.now)
     (length a.output.now) _ _ _
-    c.prepared_answer-answer.ensures c.in-Taken.is).order
+    c.prepared_answer.ensures c.in_ok-prepared_answer.was).order
 
 pub rounds_core-taken-requires : goal.rounds_core-taken-requires
 rounds_core-taken-requires c =
@@ -33,7 +32,7 @@ rounds_core-taken-requires c =
     let nk = prepared_words a.order (length a.prepared.now) in
     let t = block_through nk (words_for (encrypted_with_need nk a.order)) a.order (length a.input.now) (length a.tape.now)
     (length a.output.now) _ _ _
-    c.prepared_answer-answer.ensures c.in-Taken.is
+    c.prepared_answer.ensures c.in_ok-prepared_answer.was
     in
     let w = c.prepared_words-nk.ensures in (
       record {
@@ -43,8 +42,7 @@ rounds_core-taken-requires c =
         input = t.input;
         output = t.output;
         drawn = rw w.0 (words_reach _ a.tape.now t.drawn);
-      },
-      lent c.logs-logs.ensures c.antilogs-antilogs.ensures,
+      }
     )
 
 pub returns : goal.returns
@@ -53,7 +51,7 @@ returns c =
     let a = c.args in
     let w = c.prepared_words-nk.ensures.0 in
     let made = c.rounds_core-taken.ensures in
-    settled-done _ _ _ _ _ c.prepared_answer-answer.ensures _ _ _ c.in-Taken.is
+    settled-done _ _ _ _ _ c.prepared_answer.ensures _ _ _ c.in_ok-prepared_answer.was
     (ap took (whole_words _ _ made.0 ∙ ap (λ (n : ℕ). words_for (encrypted_with_need n a.order)) w))
     (encrypted_with-made _ a.order a.prepared.now a.input.now (bytes_of a.tape.now) _ made.1
     ∙ ap (λ (n : ℕ). encrypted_with_laid n a.order a.prepared.now a.input.now (bytes_of a.tape.now)) w)

@@ -2,9 +2,8 @@
 use mathlib.Core.Path.{ap, ◌∙◌}
 use Prim.Native.Nat.{ℕ}
 use lib.ListN.{length}
-use Rattle.gf256.specs.Tables.{lent}
 use Rattle.outcomes.specs.Outcome.{took}
-use Rattle.outcomes.proofs.OutcomeLaws.{settled-refused, settled-done}
+use Rattle.outcomes.proofs.OutcomeLaws.{settled-handed, settled-done}
 use Rattle.tape_words.specs.Words.{bytes_of, words_for}
 use Rattle.tape_words.proofs.WordsLaws.{words_reach, whole_words}
 use Rattle.cipher.specs.Cipher.{schedule_need, prepared_laid}
@@ -14,21 +13,21 @@ use Rattle.aes.specs.Calls.{prepare_outcome}
 use Rattle.aes.proofs.CallsLaws.{prepared_keys_length, prepared_made}
 use Rattle.aes.proofs.preparation.prepare.Goals as goal
 
-pub returns-in_default : goal.returns-in_default
+pub returns-in_err-preparation_answer : goal.returns-in_err-preparation_answer
 unfolding prepare_outcome
-returns-in_default c = settled-refused _ _ _ _ _ c.preparation_answer-answer.ensures _ c.in_default.is
+returns-in_err-preparation_answer c = settled-handed _ _ _ _ _ c.preparation_answer.ensures _ c.in_err-preparation_answer.was _ c.from_residual.ensures.1
 
 pub key_words-nk-requires : goal.key_words-nk-requires
 key_words-nk-requires c =
     let a = c.args in
     (preparation_through a.order (length a.key.now) (length a.tape.now) (length a.output.now) _ _ _
-    c.preparation_answer-answer.ensures c.in-Taken.is).order
+    c.preparation_answer.ensures c.in_ok-preparation_answer.was).order
 
 pub expand_core-requires : goal.expand_core-requires
 expand_core-requires c =
     let a = c.args in
     let t = preparation_through a.order (length a.key.now) (length a.tape.now) (length a.output.now) _ _ _
-    c.preparation_answer-answer.ensures c.in-Taken.is
+    c.preparation_answer.ensures c.in_ok-preparation_answer.was
     in
     let w = c.key_words-nk.ensures in (
       record {
@@ -38,8 +37,7 @@ expand_core-requires c =
         long = rw w.0 (key_length a.order (length a.key.now) t.some);
         keyed = rw w.0 (prepared_keys_length _ a.order _ t.output);
         drawn = rw w.0 (words_reach _ a.tape.now t.drawn);
-      },
-      lent c.logs-logs.ensures c.antilogs-antilogs.ensures,
+      }
     )
 
 pub returns : goal.returns
@@ -48,7 +46,7 @@ returns c =
     let a = c.args in
     let w = c.key_words-nk.ensures.0 in
     let made = c.expand_core.ensures in
-    settled-done _ _ _ _ _ c.preparation_answer-answer.ensures _ _ _ c.in-Taken.is
+    settled-done _ _ _ _ _ c.preparation_answer.ensures _ _ _ c.in_ok-preparation_answer.was
     (ap took (whole_words _ _ made.0 ∙ ap (λ (n : ℕ). words_for (schedule_need n a.order)) w))
     (prepared_made _ a.order a.key.now (bytes_of a.tape.now) _ made.1
     ∙ ap (λ (n : ℕ). prepared_laid n a.order a.key.now (bytes_of a.tape.now)) w)

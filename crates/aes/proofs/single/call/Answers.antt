@@ -2,9 +2,8 @@
 use mathlib.Core.Path.{ap, ◌∙◌}
 use Prim.Native.Nat.{ℕ}
 use lib.ListN.{length}
-use Rattle.gf256.specs.Tables.{lent}
 use Rattle.outcomes.specs.Outcome.{took}
-use Rattle.outcomes.proofs.OutcomeLaws.{settled-refused, settled-done}
+use Rattle.outcomes.proofs.OutcomeLaws.{settled-handed, settled-done}
 use Rattle.tape_words.specs.Words.{bytes_of, words_for}
 use Rattle.tape_words.proofs.WordsLaws.{words_reach, whole_words}
 use Rattle.cipher.specs.Cipher.{cipher_need}
@@ -15,10 +14,10 @@ use Rattle.aes.specs.Directions.{laid_of}
 use Rattle.aes.proofs.CallsLaws.{single_is}
 use Rattle.aes.proofs.single.call.Goals as goal
 
-pub returns-in_default : goal.returns-in_default
-returns-in_default c =
+pub returns-in_err-single_answer : goal.returns-in_err-single_answer
+returns-in_err-single_answer c =
     let a = c.args in
-    settled-refused _ _ _ _ _ c.single_answer-answer.ensures _ c.in_default.is
+    settled-handed _ _ _ _ _ c.single_answer.ensures _ c.in_err-single_answer.was _ c.from_residual.ensures.1
     ∙ single_is a.which a.order a.key.now a.input.now a.tape.now a.output.now
 
 pub key_words-nk-requires : goal.key_words-nk-requires
@@ -27,7 +26,7 @@ key_words-nk-requires c =
     let nk = key_words a.order (length a.key.now) in
     (block_through nk (words_for (cipher_need nk a.order)) a.order (length a.input.now) (length a.tape.now)
     (length a.output.now) _ _ _
-    c.single_answer-answer.ensures c.in-Taken.is).order
+    c.single_answer.ensures c.in_ok-single_answer.was).order
 
 pub block_core-requires : goal.block_core-requires
 block_core-requires c =
@@ -35,7 +34,7 @@ block_core-requires c =
     let nk = key_words a.order (length a.key.now) in
     let t = block_through nk (words_for (cipher_need nk a.order)) a.order (length a.input.now) (length a.tape.now)
     (length a.output.now) _ _ _
-    c.single_answer-answer.ensures c.in-Taken.is
+    c.single_answer.ensures c.in_ok-single_answer.was
     in
     let w = c.key_words-nk.ensures in (
       record {
@@ -46,8 +45,7 @@ block_core-requires c =
         input = t.input;
         output = t.output;
         drawn = rw w.0 (words_reach _ a.tape.now t.drawn);
-      },
-      lent c.logs-logs.ensures c.antilogs-antilogs.ensures,
+      }
     )
 
 pub returns : goal.returns
@@ -55,7 +53,7 @@ returns c =
     let a = c.args in
     let w = c.key_words-nk.ensures.0 in
     let made = c.block_core.ensures in
-    settled-done _ _ _ _ _ c.single_answer-answer.ensures _ _ _ c.in-Taken.is
+    settled-done _ _ _ _ _ c.single_answer.ensures _ _ _ c.in_ok-single_answer.was
     (ap took (whole_words _ _ made.0 ∙ ap (λ (n : ℕ). words_for (cipher_need n a.order)) w))
     (made.1 ∙ ap (λ (n : ℕ). laid_of a.which n a.order a.key.now a.input.now (bytes_of a.tape.now)) w)
     ∙ single_is a.which a.order a.key.now a.input.now a.tape.now a.output.now

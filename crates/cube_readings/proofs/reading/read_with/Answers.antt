@@ -14,4 +14,4 @@ returns c =
     let a = c.args in
     c.read_listed.ensures
     ∙ cube_read a.order a.input.now a.tape.now a.list.now a.output.now a.sheet.now _ _
-    c.cube_sheet-made.ensures _ c.in-Taken.is
+    c.cube_sheet-made.ensures _ c.in-Ok.is

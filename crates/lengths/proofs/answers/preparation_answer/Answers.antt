@@ -2,7 +2,7 @@
 use mathlib.Core.Path.{sym, ap, ◌∙◌, subst}
 use Prim.Native.Nat.{ℕ}
 use borrow.Author.Tests.{eq-eqb, ne_eqb}
-use Rattle.outcomes.specs.declared.Answer.TheVariants.{Taken}
+use Rattle.std.specs.Prelude.{Ok}
 use Rattle.outcomes.specs.Outcome.{took, reaches}
 use Rattle.outcomes.proofs.OutcomeLaws.{answered_here, answered_next, answered-none, served_bounds, lt_reaches, le_reaches}
 use Rattle.tape_words.specs.Words.{words_for}
@@ -61,4 +61,4 @@ returns c =
     keyed-some _ _ _ _ _ _ e (sym c.served.ensures ∙ c.if-not-served.false) c.if-nk-eq0.false
     (answered_next _ _ _ _ (eq-eqb _ _ (c.if-output-prepared_length.false ∙ size))
     (answered_next _ _ _ _ (ap (reaches a.tape) (sym need) ∙ le_reaches _ _ c.if-tape-words.false)
-    (ap (λ (n : ℕ). Taken (took n)) need ∙ answered-none _)))
+    (ap (λ (n : ℕ). Ok (took n)) need ∙ answered-none _)))

@@ -3,7 +3,7 @@ use mathlib.Core.Path.{ap, sym, ◌∙◌}
 use Prim.Native.Nat.{ℕ}
 use borrow.Author.Tests.{eq-eqb, ne_eqb}
 use Rattle.outcomes.specs.Outcome.{reaches, took}
-use Rattle.outcomes.specs.declared.Answer.TheVariants.{Taken}
+use Rattle.std.specs.Prelude.{Ok}
 use Rattle.outcomes.proofs.OutcomeLaws.{answered_here, answered_next, answered-none, served_bounds, lt_reaches, le_reaches}
 use Rattle.tape_words.specs.Words.{words_for}
 use Rattle.masking.proofs.product.factors_answer.Goals as goal
@@ -45,4 +45,4 @@ returns c =
     (answered_next _ _ _ _ (sym c.two_fit.ensures ∙ c.if-not-two_fit.false)
     (answered_next _ _ _ _ (eq-eqb _ _ c.if-output-room.false)
     (answered_next _ _ _ _ (ap (λ (k : ℕ). reaches a.tape k) (sym need) ∙ le_reaches _ _ c.if-tape-need.false)
-    (ap (λ (k : ℕ). Taken (took k)) need ∙ answered-none _))))
+    (ap (λ (k : ℕ). Ok (took k)) need ∙ answered-none _))))

@@ -2,20 +2,20 @@
 use Rattle.place_lists.proofs.ReadingLaws.{listed-refused, listed-fits, listed-done}
 use Rattle.place_lists.proofs.listed.read_listed.Goals as goal
 
-pub returns-in_default : goal.returns-in_default
-returns-in_default c =
+pub returns-in_err-listed_answer : goal.returns-in_err-listed_answer
+returns-in_err-listed_answer c =
     let a = c.args in
     listed-refused a.count a.order a.sheet.now a.list.now a.output.now _ c.all_below-below.ensures _
-    c.listed_answer-answer.ensures _ c.in_default.is
+    c.listed_answer.ensures _ c.in_default.is
 
 pub pick_listed-requires : goal.pick_listed-requires
 pick_listed-requires c =
     let a = c.args in
     listed-fits a.count a.order a.sheet.now a.list.now a.output.now _ c.all_below-below.ensures _
-    c.listed_answer-answer.ensures _ c.in-Taken.is
+    c.listed_answer.ensures _ c.in_ok-listed_answer.was
 
 pub returns : goal.returns
 returns c =
     let a = c.args in
     listed-done a.count a.order a.sheet.now a.list.now a.output.now _ c.all_below-below.ensures _
-    c.listed_answer-answer.ensures _ c.in-Taken.is _ c.pick_listed.ensures
+    c.listed_answer.ensures _ c.in_ok-listed_answer.was _ c.pick_listed.ensures

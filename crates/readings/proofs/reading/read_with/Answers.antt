@@ -14,4 +14,4 @@ returns c =
     let a = c.args in
     c.read_listed.ensures
     ∙ product_read a.order a.left.now a.right.now a.tape.now a.list.now a.output.now a.sheet.now _ _
-    c.product_sheet-made.ensures _ c.in-Taken.is
+    c.product_sheet-made.ensures _ c.in-Ok.is

@@ -6,7 +6,7 @@ use native.Mathlib.Nat.{one-mul}
 use native.Mathlib.Omega.{arith}
 use lib.ListN.{length}
 use Rattle.outcomes.specs.Outcome.{took}
-use Rattle.outcomes.proofs.OutcomeLaws.{settled-refused, settled-done}
+use Rattle.outcomes.proofs.OutcomeLaws.{settled-handed, settled-done}
 use Rattle.tape_words.specs.Words.{bytes_of}
 use Rattle.shares.proofs.CallsLaws.{input-answered, input_through}
 use Rattle.xor.proofs.WriteLaws.{front-all}
@@ -15,30 +15,30 @@ use Rattle.refresh.specs.Refresh.{refreshed, refresh_need}
 use Rattle.refresh.proofs.RefreshLaws.{refresh_need-pairs}
 use Rattle.refresh.proofs.refreshing.refresh.Goals as goal
 
-pub returns-in_default : goal.returns-in_default
+pub returns-in_err-byte_answer : goal.returns-in_err-byte_answer
 unfolding refresh_outcome
-returns-in_default c =
+returns-in_err-byte_answer c =
     let v = c.args in
     let e = input-answered _ (refresh_need v.order) v.order (length v.input.now) (length v.tape.now) (length v.output.now) _
-    (one-mul _ ∙ sym (refresh_need-pairs v.order)) c.byte_answer-answer.ensures in
-    settled-refused _ _ _ _ _ e _ c.in_default.is
+    (one-mul _ ∙ sym (refresh_need-pairs v.order)) c.byte_answer.ensures in
+    settled-handed _ _ _ _ _ e _ c.in_err-byte_answer.was _ c.from_residual.ensures.1
 
 pub put-requires : goal.put-requires
 put-requires c =
     let v = c.args in
     let e = input-answered _ (refresh_need v.order) v.order (length v.input.now) (length v.tape.now) (length v.output.now) _
-    (one-mul _ ∙ sym (refresh_need-pairs v.order)) c.byte_answer-answer.ensures in
+    (one-mul _ ∙ sym (refresh_need-pairs v.order)) c.byte_answer.ensures in
     let h = input_through _ _ v.order (length v.input.now) (length v.tape.now) (length v.output.now) _ _ e
-    c.in-Taken.is in
+    c.in_ok-byte_answer.was in
     omega (arith, h.input, h.output)
 
 pub refresh_on_words-requires : goal.refresh_on_words-requires
 refresh_on_words-requires c =
     let v = c.args in
     let e = input-answered _ (refresh_need v.order) v.order (length v.input.now) (length v.tape.now) (length v.output.now) _
-    (one-mul _ ∙ sym (refresh_need-pairs v.order)) c.byte_answer-answer.ensures in
+    (one-mul _ ∙ sym (refresh_need-pairs v.order)) c.byte_answer.ensures in
     let h = input_through _ _ v.order (length v.input.now) (length v.tape.now) (length v.output.now) _ _ e
-    c.in-Taken.is in
+    c.in_ok-byte_answer.was in
     let l = c.put.auto.out in
     (h.order, omega (arith, h.output, l), h.drawn)
 
@@ -47,10 +47,10 @@ unfolding refresh_outcome
 returns c =
     let v = c.args in
     let e = input-answered _ (refresh_need v.order) v.order (length v.input.now) (length v.tape.now) (length v.output.now) _
-    (one-mul _ ∙ sym (refresh_need-pairs v.order)) c.byte_answer-answer.ensures in
+    (one-mul _ ∙ sym (refresh_need-pairs v.order)) c.byte_answer.ensures in
     let h = input_through _ _ v.order (length v.input.now) (length v.tape.now) (length v.output.now) _ _ e
-    c.in-Taken.is in
+    c.in_ok-byte_answer.was in
     let m = c.put.ensures ∙ front-all v.input.now v.output.now (h.input ∙ sym h.output) in
     let p = c.refresh_on_words.ensures in
-    settled-done _ _ _ _ _ e _ _ _ c.in-Taken.is (ap took p.0)
+    settled-done _ _ _ _ _ e _ _ _ c.in_ok-byte_answer.was (ap took p.0)
     (p.1 ∙ ap (λ (x : List ℕ). refreshed v.order x (bytes_of v.tape.now)) m)

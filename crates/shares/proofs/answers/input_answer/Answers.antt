@@ -6,7 +6,7 @@ use native.Mathlib.Numerals.{add-one}
 use native.Mathlib.Omega.{arith}
 use borrow.Author.Tests.{eq-eqb, ne_eqb}
 use Rattle.xor.proofs.PairsLaws.{pair_count_bound}
-use Rattle.outcomes.specs.declared.Answer.TheVariants.{Taken}
+use Rattle.std.specs.Prelude.{Ok}
 use Rattle.outcomes.specs.Outcome.{took}
 use Rattle.tape_words.specs.Words.{words_for}
 use Rattle.outcomes.proofs.OutcomeLaws.{answered_here, answered_next, answered-none, served_bounds, lt_reaches, le_reaches}
@@ -54,7 +54,7 @@ pub returns : goal.returns
 returns c =
     let v = c.args in
     let n = c.words_for-need.ensures ∙ ap (λ (k : ℕ). words_for (v.each * k)) c.pair_count.ensures in
-    ap (λ (k : ℕ). Taken (took k)) n
+    ap (λ (k : ℕ). Ok (took k)) n
     ∙ answered_next _ _ _ _ (sym c.served.ensures ∙ c.if-not-served.false)
     (answered_next _ _ _ _ (eq-eqb _ _ (c.if-input-order.false ∙ add-one _))
     (answered_next _ _ _ _ (eq-eqb _ _ c.if-output-room.false)

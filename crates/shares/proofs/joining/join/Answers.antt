@@ -4,20 +4,20 @@ use Prim.Native.Nat.{ℕ, suc, ◌*◌}
 use lib.ListN.{length}
 use Rattle.shares.specs.Strings.{joined_string, parts}
 use Rattle.shares.specs.Calls.{join_outcome}
-use Rattle.outcomes.proofs.OutcomeLaws.{settled-refused, settled-done}
+use Rattle.outcomes.proofs.OutcomeLaws.{settled-handed, settled-done}
 use Rattle.outcomes.proofs.LengthsLaws.{share_length_is}
 use Rattle.shares.proofs.CallsLaws.{join_through}
 use Rattle.shares.proofs.joining.join.Goals as goal
 
-pub returns-in_default : goal.returns-in_default
+pub returns-in_err-join_answer : goal.returns-in_err-join_answer
 unfolding join_outcome
-returns-in_default c = settled-refused _ _ _ _ _ c.join_answer-answer.ensures _ c.in_default.is
+returns-in_err-join_answer c = settled-handed _ _ _ _ _ c.join_answer.ensures _ c.in_err-join_answer.was _ c.from_residual.ensures.1
 
 pub join_core-requires : goal.join_core-requires
 join_core-requires c =
     let v = c.args in
     let x = length v.input.now in
-    let h = join_through v.order x (length v.output.now) _ _ _ c.join_answer-answer.ensures c.in-Taken.is in
+    let h = join_through v.order x (length v.output.now) _ _ _ c.join_answer.ensures c.in_ok-join_answer.was in
     (refl, share_length_is (suc v.order) x h.input ∙ ap (λ (n : ℕ). suc v.order * n) (sym h.output))
 
 pub returns : goal.returns
@@ -25,6 +25,6 @@ unfolding join_outcome
 returns c =
     let v = c.args in
     let x = length v.input.now in
-    let h = join_through v.order x (length v.output.now) _ _ _ c.join_answer-answer.ensures c.in-Taken.is in
-    settled-done _ _ _ _ _ c.join_answer-answer.ensures _ _ _ c.in-Taken.is refl
+    let h = join_through v.order x (length v.output.now) _ _ _ c.join_answer.ensures c.in_ok-join_answer.was in
+    settled-done _ _ _ _ _ c.join_answer.ensures _ _ _ c.in_ok-join_answer.was refl
     (c.join_core.ensures ∙ ap (λ (l : ℕ). joined_string (parts (suc v.order) l v.input.now)) h.output)

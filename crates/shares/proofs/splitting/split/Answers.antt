@@ -7,22 +7,22 @@ use Rattle.outcomes.specs.Outcome.{took, share_length}
 use Rattle.tape_words.specs.Words.{words_for}
 use Rattle.shares.specs.Strings.{split_need}
 use Rattle.shares.specs.Calls.{split_outcome}
-use Rattle.outcomes.proofs.OutcomeLaws.{settled-refused, settled-done}
+use Rattle.outcomes.proofs.OutcomeLaws.{settled-handed, settled-done}
 use Rattle.outcomes.proofs.LengthsLaws.{share_length_is, share_length_le}
 use Rattle.shares.proofs.CallsLaws.{split_through}
 use Rattle.shares.proofs.splitting.split.Goals as goal
 
-pub returns-in_default : goal.returns-in_default
+pub returns-in_err-split_answer : goal.returns-in_err-split_answer
 unfolding split_outcome
-returns-in_default c = settled-refused _ _ _ _ _ c.split_answer-answer.ensures _ c.in_default.is
+returns-in_err-split_answer c = settled-handed _ _ _ _ _ c.split_answer.ensures _ c.in_err-split_answer.was _ c.from_residual.ensures.1
 
 pub split_on_words-requires : goal.split_on_words-requires
 unfolding split_need
 split_on_words-requires c =
     let v = c.args in
     let x = length v.input.now in
-    let h = split_through v.order x (length v.tape.now) (length v.output.now) _ _ _ c.split_answer-answer.ensures
-    c.in-Taken.is in
+    let h = split_through v.order x (length v.tape.now) (length v.output.now) _ _ _ c.split_answer.ensures
+    c.in_ok-split_answer.was in
     let l : share_length 1 x ≡ x = sym (share_length_is 1 x h.input ∙ one-mul _) in
     record {
       order = h.order;
@@ -36,8 +36,8 @@ unfolding split_outcome split_need
 returns c =
     let v = c.args in
     let x = length v.input.now in
-    let h = split_through v.order x (length v.tape.now) (length v.output.now) _ _ _ c.split_answer-answer.ensures
-    c.in-Taken.is in
+    let h = split_through v.order x (length v.tape.now) (length v.output.now) _ _ _ c.split_answer.ensures
+    c.in_ok-split_answer.was in
     let l : x ≡ share_length 1 x = share_length_is 1 x h.input ∙ one-mul _ in
-    settled-done _ _ _ _ _ c.split_answer-answer.ensures _ _ _ c.in-Taken.is
+    settled-done _ _ _ _ _ c.split_answer.ensures _ _ _ c.in_ok-split_answer.was
     (ap took (c.split_on_words.ensures.0 ∙ ap (λ (n : ℕ). words_for (v.order * n)) l)) c.split_on_words.ensures.1

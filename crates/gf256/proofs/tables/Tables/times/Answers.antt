@@ -1,10 +1,10 @@
--- `gf256::table_product::table_times` meets its contract: the tables' rule, which holds at every entry. Assumes nothing.
+-- `gf256::Tables::times` meets its contract: the tables' rule, which holds at every entry. Assumes nothing.
 use Rattle.std.proofs.Common.{◌≡◌, ℕ, ◌+◌, ◌<◌, List, get_or, arith, w64, Fits}
 use Rattle.xor.specs.Lists.{at}
 use Rattle.gf256.specs.Field.{times}
-use Rattle.gf256.specs.Tables.{Tables}
+use Rattle.gf256.specs.Tables.{Tables, lent}
 use Rattle.gf256.proofs.TablesLaws.{log_le, table_product}
-use Rattle.gf256.proofs.table_product.table_times.Goals as goal
+use Rattle.gf256.proofs.tables.Tables.times.Goals as goal
 
 -- the entries as the code reads them
 module _ {ls es : List ℕ} (tables : Tables ls es) where
@@ -25,20 +25,20 @@ fitting k h = record { fits = omega arith }
 
 pub overflow_cast-i-2 : goal.overflow_cast-i-2
 overflow_cast-i-2 c =
-    fitting _ (log-small c.requires c.args.a c.ranges.a.fits)
+    fitting _ (log-small (lent c.args.self.now.logs_right c.args.self.now.antilogs_right) c.args.a c.ranges.a.fits)
 
 pub overflow_cast-j-2 : goal.overflow_cast-j-2
 overflow_cast-j-2 c =
-    fitting _ (log-small c.requires c.args.b c.ranges.b.fits)
+    fitting _ (log-small (lent c.args.self.now.logs_right c.args.self.now.antilogs_right) c.args.b c.ranges.b.fits)
 
 pub overflow_add-result : goal.overflow_add-result
 overflow_add-result c =
-    fitting _ (index-small c.requires c.args.a c.args.b c.ranges.a.fits c.ranges.b.fits)
+    fitting _ (index-small (lent c.args.self.now.logs_right c.args.self.now.antilogs_right) c.args.a c.args.b c.ranges.a.fits c.ranges.b.fits)
 
-pub bounds-antilogs-i : goal.bounds-antilogs-i
-bounds-antilogs-i c =
-    index-small c.requires c.args.a c.args.b c.ranges.a.fits c.ranges.b.fits
+pub bounds-self-i : goal.bounds-self-i
+bounds-self-i c =
+    index-small (lent c.args.self.now.logs_right c.args.self.now.antilogs_right) c.args.a c.args.b c.ranges.a.fits c.ranges.b.fits
 
 pub returns : goal.returns
 returns c =
-    product-right c.requires c.args.a c.args.b c.ranges.a.fits c.ranges.b.fits
+    product-right (lent c.args.self.now.logs_right c.args.self.now.antilogs_right) c.args.a c.args.b c.ranges.a.fits c.ranges.b.fits

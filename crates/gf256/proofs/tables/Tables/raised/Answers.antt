@@ -1,12 +1,12 @@
--- `gf256::powers::raised` meets its contract: the tables' rule for powers, which holds at every byte. Assumes nothing.
+-- `gf256::Tables::raised` meets its contract: the tables' rule for powers, which holds at every byte. Assumes nothing.
 use Rattle.std.proofs.Common.{◌≡◌, ℕ, ◌+◌, ◌*◌, ◌/◌, ◌%◌, ◌<◌, ◌≤◌, List, get_or, sym, subst, arith, w64, Fits}
 use Rattle.xor.specs.Lists.{at}
 use Rattle.gf256.specs.Exponents.{raised_to, half_of}
-use Rattle.gf256.specs.Tables.{Tables}
+use Rattle.gf256.specs.Tables.{Tables, lent}
 use Rattle.gf256.specs.declared.Exponent.{Exponent}
 use Rattle.gf256.proofs.TablesLaws.{log_le}
 use Rattle.gf256.proofs.PowersLaws.{folded, log_multiple_le, folded_le, table_power}
-use Rattle.gf256.proofs.powers.raised.Goals as goal
+use Rattle.gf256.proofs.tables.Tables.raised.Goals as goal
 
 -- the entries as the code reads them, and what it makes of them
 module _ {ls es : List ℕ} (tables : Tables ls es) where
@@ -32,28 +32,28 @@ fitting k h = record { fits = omega arith }
 
 pub overflow_cast-t-2 : goal.overflow_cast-t-2
 overflow_cast-t-2 c =
-    let l = log-small c.requires c.args.a c.ranges.a.fits in
+    let l = log-small (lent c.args.self.now.logs_right c.args.self.now.antilogs_right) c.args.a c.ranges.a.fits in
     fitting _ (omega arith)
 
 pub overflow_mul-t : goal.overflow_mul-t
 overflow_mul-t c =
-    fitting _ (multiple-small c.requires c.args.which c.args.a c.ranges.a.fits c.half-m.ensures)
+    fitting _ (multiple-small (lent c.args.self.now.logs_right c.args.self.now.antilogs_right) c.args.which c.args.a c.ranges.a.fits c.half-m.ensures)
 
 pub overflow_add-result : goal.overflow_add-result
 overflow_add-result c =
-    let f = folded-small c.requires c.args.which c.args.a c.ranges.a.fits c.half-m.ensures in
+    let f = folded-small (lent c.args.self.now.logs_right c.args.self.now.antilogs_right) c.args.which c.args.a c.ranges.a.fits c.half-m.ensures in
     fitting _ (omega arith)
 
 pub overflow_mul-result : goal.overflow_mul-result
 overflow_mul-result c =
-    let f = folded-small c.requires c.args.which c.args.a c.ranges.a.fits c.half-m.ensures in
+    let f = folded-small (lent c.args.self.now.logs_right c.args.self.now.antilogs_right) c.args.which c.args.a c.ranges.a.fits c.half-m.ensures in
     fitting _ (omega arith)
 
-pub bounds-antilogs-t : goal.bounds-antilogs-t
-bounds-antilogs-t c =
-    let f = folded-small c.requires c.args.which c.args.a c.ranges.a.fits c.half-m.ensures in
+pub bounds-self-t : goal.bounds-self-t
+bounds-self-t c =
+    let f = folded-small (lent c.args.self.now.logs_right c.args.self.now.antilogs_right) c.args.which c.args.a c.ranges.a.fits c.half-m.ensures in
     omega arith
 
 pub returns : goal.returns
 returns c =
-    power-right c.requires c.args.which c.args.a c.ranges.a.fits c.half-m.ensures
+    power-right (lent c.args.self.now.logs_right c.args.self.now.antilogs_right) c.args.which c.args.a c.ranges.a.fits c.half-m.ensures
