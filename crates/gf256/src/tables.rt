@@ -101,6 +101,7 @@ const ANTILOGS: Antilogs = [
 ];
 
 // The two tables. What they hold is a fact of the type: every place that makes one proves it.
+#[derive(Drop)]
 pub struct Tables {
     logs: Logs,
     antilogs: Antilogs,

@@ -7,8 +7,4 @@ use Rattle.masking.proofs.product.product_core.Goals as goal
 pub take_pairs-requires : goal.take_pairs-requires
 take_pairs-requires c =
     let a = c.args in
-    let p = c.requires in (
-      p.0,
-      c.start_sums.ensures ∙ ap (starts a.a.now a.b.now) (add-one a.d),
-      p.2,
-    )
+    (c.requires.0, c.start_sums.ensures ∙ ap (starts a.a.now a.b.now) (add-one a.d))

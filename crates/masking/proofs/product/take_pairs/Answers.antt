@@ -24,7 +24,7 @@ product_row-drawn-requires c =
     let b = v.b.now in
     let ts = v.tape.now in
     let h = c.loop-i-test.true in
-    (row_fits v.d l.i l.drawn h l.invariant.1 a b ts l.sums p.0 l.invariant.3, p.2)
+    row_fits v.d l.i l.drawn h l.invariant.1 a b ts l.sums p.0 l.invariant.3
 
 pub overflow_add-drawn : goal.overflow_add-drawn
 overflow_add-drawn c =

@@ -17,8 +17,8 @@ loop-m-preserved c =
     let l = c.loop-m in
     let v = c.args in (
       omega arith,
-      over_more _ _ _ _ _ l.invariant.1 c.table_times-c.ensures (omega arith),
-      over_more _ _ _ _ _ l.invariant.2 (ap (bit_xor (at v.half.now l.m)) c.table_times-c.ensures) (omega arith),
+      over_more _ _ _ _ _ l.invariant.1 c.times-c.ensures (omega arith),
+      over_more _ _ _ _ _ l.invariant.2 (ap (bit_xor (at v.half.now l.m)) c.times-c.ensures) (omega arith),
       simp length-set (omega arith),
       simp length-set (omega arith),
     )

@@ -18,8 +18,8 @@ loop-m-preserved c =
     let v = c.args in (
       omega arith,
       omega arith,
-      over_more _ _ _ _ _ l.invariant.2 c.table_times-c.ensures (omega arith),
-      over_more _ _ _ _ _ l.invariant.3 (ap₂ bit_xor (ap (at v.tape.now) l.invariant.1) c.table_times-c.ensures) (omega arith),
+      over_more _ _ _ _ _ l.invariant.2 c.times-c.ensures (omega arith),
+      over_more _ _ _ _ _ l.invariant.3 (ap₂ bit_xor (ap (at v.tape.now) l.invariant.1) c.times-c.ensures) (omega arith),
       simp length-set (omega arith),
       simp length-set (omega arith),
     )

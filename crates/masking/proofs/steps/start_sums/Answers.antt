@@ -14,7 +14,7 @@ pub loop-i-preserved : goal.loop-i-preserved
 unfolding at
 loop-i-preserved c = (
   omega arith,
-  over_more _ _ _ _ _ c.loop-i.invariant.1 c.table_times.ensures (omega arith),
+  over_more _ _ _ _ _ c.loop-i.invariant.1 c.times.ensures (omega arith),
   simp length-set (omega arith),
 )
 

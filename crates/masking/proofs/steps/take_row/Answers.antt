@@ -8,17 +8,15 @@ pub back_row-requires : goal.back_row-requires
 back_row-requires c =
     let p = c.requires in
     let f = p.0 in
-    let r = p.1 in (
-      record {
-        few = f.few;
-        left = f.left;
-        right = f.right;
-        reads = omega (arith, r.halves);
-        multiplies = r.lowers;
-        takes = r.backs;
-      },
-      p.3,
-    )
+    let r = p.1 in
+    record {
+      few = f.few;
+      left = f.left;
+      right = f.right;
+      reads = omega (arith, r.halves);
+      multiplies = r.lowers;
+      takes = r.backs;
+    }
 
 pub sum_row-requires : goal.sum_row-requires
 sum_row-requires c =
