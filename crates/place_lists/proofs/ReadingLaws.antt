@@ -14,10 +14,10 @@ use Rattle.outcomes.specs.declared.Refusal.{Refusal}
 use Rattle.outcomes.specs.declared.Refusal.TheVariants.{Order, Input, Output, Tape}
 use Rattle.outcomes.specs.declared.Count.{Count}
 use Rattle.outcomes.specs.Outcome.{Answer}
-use Rattle.std.specs.Prelude.{Ok, Err}
+use Rattle.std.specs.Prelude.{Ok, Err, IsErrAnd}
 use Rattle.outcomes.specs.Outcome.{done, outcome, Test, test, answered, settled}
 use Rattle.outcomes.proofs.OutcomeLaws.{Passed, all, ◌and◌, answered-taken, outcome_answer, le_reaches}
-use Rattle.outcomes.proofs.OutcomeLaws.{settled-past, settled-passed, settled-refused, settled-done, settled-taken}
+use Rattle.outcomes.proofs.OutcomeLaws.{settled-past, settled-passed, settled-refused, settled-handed, settled-done, settled-taken}
 use Rattle.place_lists.specs.Listed.{all_below, listed_tests, made_tests, listed_outcome}
 use Rattle.place_lists.proofs.ListedLaws.{all_below_true}
 
@@ -43,9 +43,9 @@ module _ (k : Count) (d : ℕ) (bs ps o : List ℕ) (below : Bool) (so : below �
   own_answered : answer ≡ answered own k
   own_answered = asked ∙ ap (λ (y : Bool). answered (listed_tests d (length ps) (length o) y) k) so
 
-  pub listed-refused : (r : Refusal) → answer ≡ Err r → outcome answer o ≡ listed_outcome [] (length bs) k d bs ps o
+  pub listed-handed : (r : Refusal) → answer ≡ Err r → (q : Answer) → IsErrAnd q (λ s. s ≡ r) → outcome q o ≡ listed_outcome [] (length bs) k d bs ps o
   unfolding listed_outcome
-  listed-refused = settled-refused own k o _ answer own_answered
+  listed-handed = settled-handed own k o _ answer own_answered
 
   module _ (c : Count) (through : answer ≡ Ok c) where
     known : Passed own × (c ≡ k)
@@ -58,10 +58,9 @@ module _ (k : Count) (d : ℕ) (bs ps o : List ℕ) (below : Bool) (so : below �
         go : Passed own → (length o ≡ length ps) × (all_below (length bs) ps ≡ true)
         go (r and f and y and p) = (eqb-true (length o) (length ps) r, y)
 
-    pub listed-done : (x : List ℕ) → x ≡ listed bs ps → outcome answer x ≡ listed_outcome [] (length bs) k d bs ps o
+    pub listed-done : (x : List ℕ) → x ≡ listed bs ps → outcome (Ok c) x ≡ listed_outcome [] (length bs) k d bs ps o
     unfolding listed_outcome
-    listed-done x e =
-        ap (λ (y : Answer). outcome y x) through ∙ settled-done own k o _ answer own_answered c c x through known.1 e
+    listed-done x e = settled-done own k o _ answer own_answered c c x through known.1 e
 
 -- ---- what the outcome says
 

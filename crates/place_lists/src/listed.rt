@@ -60,7 +60,7 @@ pub fn read_listed(
         ≡ listed_outcome [] (length sheet.now) count order sheet.now list.now output.old }
 {
     let below = all_below(sheet.len(), list);
-    listed_answer(count, order, list.len(), output.len(), below)?;
+    let count = listed_answer(count, order, list.len(), output.len(), below)?;
     pick_listed(sheet, list, output);
-    answer
+    Ok(count)
 }

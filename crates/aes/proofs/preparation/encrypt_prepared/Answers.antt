@@ -34,8 +34,8 @@ rounds_core-taken-requires c =
     (length a.output.now) _ _ _
     c.prepared_answer.ensures c.in_ok-prepared_answer.was
     in
-    let w = c.prepared_words-nk.ensures in (
-      record {
+    let w = c.prepared_words-nk.ensures in
+    record {
         order = t.order;
         small = w.1;
         keyed = rw w.0 (prepared_keys_length _ a.order _ (prepared_long a.order (length a.prepared.now) t.some));
@@ -43,7 +43,6 @@ rounds_core-taken-requires c =
         output = t.output;
         drawn = rw w.0 (words_reach _ a.tape.now t.drawn);
       }
-    )
 
 pub returns : goal.returns
 unfolding encrypt_prepared_outcome

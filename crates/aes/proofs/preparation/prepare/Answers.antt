@@ -29,8 +29,8 @@ expand_core-requires c =
     let t = preparation_through a.order (length a.key.now) (length a.tape.now) (length a.output.now) _ _ _
     c.preparation_answer.ensures c.in_ok-preparation_answer.was
     in
-    let w = c.key_words-nk.ensures in (
-      record {
+    let w = c.key_words-nk.ensures in
+    record {
         order = t.order;
         some = rw w.0 t.some;
         small = w.1;
@@ -38,7 +38,6 @@ expand_core-requires c =
         keyed = rw w.0 (prepared_keys_length _ a.order _ t.output);
         drawn = rw w.0 (words_reach _ a.tape.now t.drawn);
       }
-    )
 
 pub returns : goal.returns
 unfolding prepare_outcome

@@ -10,4 +10,4 @@ block_with-requires c =
     let a = c.args in
     let size = c.prepared_length-size in
     let room = length-part_first _ size.result size.ensures.1 in
-    (search rules, room ∙ prepared_keys_length a.nk a.d _ size.ensures.0, search rules)
+    (search rules, room ∙ prepared_keys_length a.nk a.d _ size.ensures.0)

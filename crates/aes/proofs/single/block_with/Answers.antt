@@ -8,7 +8,8 @@ use Rattle.aes.proofs.single.block_with.Goals as goal
 
 pub expand_core-drawn-requires : goal.expand_core-drawn-requires
 unfolding cipher_need
-expand_core-drawn-requires c = (search rules, search rules)
+expand_core-drawn-requires c =
+    search rules
 
 pub offset_bounds-tape-drawn : goal.offset_bounds-tape-drawn
 unfolding cipher_need
@@ -30,17 +31,15 @@ unfolding cipher_need
 rounds_core-requires c =
     let a = c.args in
     let fit = c.requires.0 in
-    let drawn = c.expand_core-drawn.ensures.0 in (
-      record {
-        order = fit.order;
-        small = fit.small;
-        keyed = search rules;
-        input = fit.input;
-        output = fit.output;
-        drawn = omega (arith, drawn, fit.drawn, length-bytes a.tape.now, length-bytes_rest c.expand_core-drawn.result a.tape.now);
-      },
-      search rules,
-    )
+    let drawn = c.expand_core-drawn.ensures.0 in
+    record {
+      order = fit.order;
+      small = fit.small;
+      keyed = search rules;
+      input = fit.input;
+      output = fit.output;
+      drawn = omega (arith, drawn, fit.drawn, length-bytes a.tape.now, length-bytes_rest c.expand_core-drawn.result a.tape.now);
+    }
 
 pub overflow_add-result : goal.overflow_add-result
 unfolding cipher_need

@@ -36,8 +36,8 @@ block_core-requires c =
     (length a.output.now) _ _ _
     c.single_answer.ensures c.in_ok-single_answer.was
     in
-    let w = c.key_words-nk.ensures in (
-      record {
+    let w = c.key_words-nk.ensures in
+    record {
         order = t.order;
         some = rw w.0 t.some;
         small = w.1;
@@ -46,7 +46,6 @@ block_core-requires c =
         output = t.output;
         drawn = rw w.0 (words_reach _ a.tape.now t.drawn);
       }
-    )
 
 pub returns : goal.returns
 returns c =

@@ -13,7 +13,7 @@ use Rattle.cubes.proofs.cube.cube_core.Goals as goal
 
 pub factor_shown-drawn-requires : goal.factor_shown-drawn-requires
 factor_shown-drawn-requires c =
-    (c.requires.0, length-part_first _ _ (omega (arith, c.requires.0.order)) ∙ add-one _, c.requires.1, c.requires.2)
+    (c.requires.0, length-part_first _ _ (omega (arith, c.requires.0.order)) ∙ add-one _, c.requires.1)
 
 pub overflow_mul-at : goal.overflow_mul-at
 overflow_mul-at c =
@@ -45,16 +45,13 @@ pub sheet_core-requires : goal.sheet_core-requires
 sheet_core-requires c =
     let v = c.args in
     let p = c.requires in
-    let f = c.factor_shown-drawn.ensures in (
-      record {
-        order = p.0.order;
-        left = c.z-1.given ∙ length-part_first _ _ (omega (arith, p.0.order)) ∙ add-one _;
-        right = p.0.input;
-        drawn = rw length-part_rest (omega (arith, f.0, p.0.drawn, cube_need-parts v.d));
-      },
-      rw length-part_rest (omega (arith, f.0, p.1, cube_count-parts v.d)),
-      p.2,
-    )
+    let f = c.factor_shown-drawn.ensures in
+    (record {
+      order = p.0.order;
+      left = c.z-1.given ∙ length-part_first _ _ (omega (arith, p.0.order)) ∙ add-one _;
+      right = p.0.input;
+      drawn = rw length-part_rest (omega (arith, f.0, p.0.drawn, cube_need-parts v.d));
+    }, rw length-part_rest (omega (arith, f.0, p.1, cube_count-parts v.d)))
 
 pub overflow_add-result : goal.overflow_add-result
 overflow_add-result c =

@@ -23,11 +23,8 @@ unpack-requires c =
 
 pub cube_core-requires : goal.cube_core-requires
 cube_core-requires c =
-    let p = c.requires in (
-      record { order = p.0.order; input = p.0.input; drawn = omega (arith, cube_need_bound c.args.d p.0.order) },
-      p.1,
-      p.2,
-    )
+    let p = c.requires in
+    (record { order = p.0.order; input = p.0.input; drawn = omega (arith, cube_need_bound c.args.d p.0.order) }, p.1)
 
 pub returns : goal.returns
 returns c =

@@ -10,28 +10,26 @@ use Rattle.rounds.proofs.rounds.rounds_core.Goals as goal
 pub add_key-requires : goal.add_key-requires
 add_key-requires c =
     let a = c.args in
-    let fit = c.requires.0 in
+    let fit = c.requires in
     (fit.order, omega (arith, c.key_number-first.ensures.1), keys_length a.nk a.d _ fit.keyed, omega arith)
 
 pub run_rounds-requires : goal.run_rounds-requires
 run_rounds-requires c =
     let a = c.args in
-    let fit = c.requires.0 in (
-      record {
-        order = fit.order;
-        small = omega arith;
-        round = omega arith;
-        keyed = keys_length a.nk a.d _ fit.keyed;
-        drawn = omega (arith, fit.drawn, rounds_need-of a.nk a.d);
-        long = omega (arith, fit.output);
-      },
-      search rules,
-    )
+    let fit = c.requires in
+    record {
+      order = fit.order;
+      small = omega arith;
+      round = omega arith;
+      keyed = keys_length a.nk a.d _ fit.keyed;
+      drawn = omega (arith, fit.drawn, rounds_need-of a.nk a.d);
+      long = omega (arith, fit.output);
+    }
 
 pub returns : goal.returns
 returns c =
     let a = c.args in
-    let fit = c.requires.0 in
+    let fit = c.requires in
     let k = c.key_number-first in
     let run = c.run_rounds.ensures in
     let copied = c.put.ensures ∙ front-all a.input.now a.output.now (fit.input ∙ sym fit.output) in

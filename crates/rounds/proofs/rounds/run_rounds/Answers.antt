@@ -12,49 +12,47 @@ use borrow.Author.Rules.{rules}
 use Rattle.rounds.proofs.rounds.run_rounds.Goals as goal
 
 pub loop-i-init : goal.loop-i-init
-loop-i-init c = (omega arith, omega arith, refl, buffered_start _ 1 _ _ _ _ c.requires.0.long)
+loop-i-init c = (omega arith, omega arith, refl, buffered_start _ 1 _ _ _ _ c.requires.long)
 
 pub offset_bounds-tape-at : goal.offset_bounds-tape-at
 offset_bounds-tape-at c =
     let a = c.args in
     let whole = rounds-whole-need a.which a.d a.nr (parts (suc a.d) a.m a.keys.now) in
-    omega (arith, whole, c.well_formed, c.requires.0.drawn, length-bytes a.tape.now)
+    omega (arith, whole, c.well_formed, c.requires.drawn, length-bytes a.tape.now)
 
 pub slice_bounds-make_round-count : goal.slice_bounds-make_round-count
 slice_bounds-make_round-count c =
     let a = c.args in
     let whole = rounds-whole-need a.which a.d a.nr (parts (suc a.d) a.m a.keys.now) in
-    omega (arith, whole, c.requires.0.drawn, length-bytes a.tape.now)
+    omega (arith, whole, c.requires.drawn, length-bytes a.tape.now)
 
 pub slice_bounds-make_round-start : goal.slice_bounds-make_round-start
 slice_bounds-make_round-start c =
     let a = c.args in
     let whole = rounds-whole-need a.which a.d a.nr (parts (suc a.d) a.m a.keys.now) in
-    omega (arith, whole, c.requires.0.drawn, length-bytes a.tape.now)
+    omega (arith, whole, c.requires.drawn, length-bytes a.tape.now)
 
 pub make_round-at-requires : goal.make_round-at-requires
 unfolding round_loop
 make_round-at-requires c =
     let a = c.args in
-    let fit = c.requires.0 in
+    let fit = c.requires in
     let l = c.loop-i in
     let whole = rounds-whole-need a.which a.d a.nr (parts (suc a.d) a.m a.keys.now) in
-    let room = buffered_room l.invariant.3 (omega arith) in (
-      record {
-        order = fit.order;
-        round = omega (arith, fit.round, c.key_number-r.ensures.1);
-        keyed = fit.keyed;
-        drawn = omega (arith, room, whole, fit.drawn, length-bytes a.tape.now, length-bytes_rest l.at a.tape.now);
-        long = l.invariant.3.long;
-      },
-      search rules,
-    )
+    let room = buffered_room l.invariant.3 (omega arith) in
+    record {
+      order = fit.order;
+      round = omega (arith, fit.round, c.key_number-r.ensures.1);
+      keyed = fit.keyed;
+      drawn = omega (arith, room, whole, fit.drawn, length-bytes a.tape.now, length-bytes_rest l.at a.tape.now);
+      long = l.invariant.3.long;
+    }
 
 pub overflow_add-at : goal.overflow_add-at
 unfolding round_loop
 overflow_add-at c =
     let a = c.args in
-    let fit = c.requires.0 in
+    let fit = c.requires in
     let whole = rounds-whole-need a.which a.d a.nr (parts (suc a.d) a.m a.keys.now) in
     let room = buffered_room c.loop-i.invariant.3 (omega arith) in
     let bound = rounds_bound a.nr a.d fit.small fit.order in
@@ -64,7 +62,7 @@ pub loop-i-preserved : goal.loop-i-preserved
 unfolding round_loop
 loop-i-preserved c =
     let a = c.args in
-    let fit = c.requires.0 in
+    let fit = c.requires in
     let l = c.loop-i in
     let q = c.make_round-at in
     let k = c.key_number-r in

@@ -12,20 +12,20 @@ use Rattle.sbox.proofs.boxes.box_on_words.Goals as goal
 pub unpack-requires : goal.unpack-requires
 unpack-requires c =
     let v = c.args in
-    let fit = c.requires.0 in
+    let fit = c.requires in
     unpack_fits _ (box_need v.d) 54 v.tape.now c.box_need.ensures (reach_words _ v.tape.now fit.drawn)
     (box_need_bound v.d fit.order)
 
 pub box_core-requires : goal.box_core-requires
 box_core-requires c =
-    let fit = c.requires.0 in
+    let fit = c.requires in
     let few = box_need_bound c.args.d fit.order in
-    (record { order = fit.order; long = fit.long; drawn = omega (arith, few) }, c.requires.1)
+    record { order = fit.order; long = fit.long; drawn = omega (arith, few) }
 
 pub returns : goal.returns
 returns c =
     let v = c.args in
-    let words = reach_words _ v.tape.now c.requires.0.drawn in
+    let words = reach_words _ v.tape.now c.requires.drawn in
     let made = made_on_words (box v.d v.x.now) _ (box_of-surplus v.d Forward v.x.now) in (
       c.words_for.ensures ∙ ap words_for c.box_core.ensures.0,
       made _ v.tape.now _ _ _ c.box_need.ensures words c.unpack.ensures c.box_core.ensures.1,

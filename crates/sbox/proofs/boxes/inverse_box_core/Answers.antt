@@ -8,7 +8,8 @@ use borrow.Author.Rules.{rules}
 use Rattle.sbox.proofs.boxes.inverse_box_core.Goals as goal
 
 pub power_core-requires : goal.power_core-requires
-power_core-requires c = (record { order = search rules; long = search rules; drawn = search rules }, search rules)
+power_core-requires c =
+    record { order = search rules; long = search rules; drawn = search rules }
 
 pub returns : goal.returns
 unfolding inverse_box

@@ -39,9 +39,8 @@ box_on_words-requires c =
     (sym (power_need-pairs v.order)) c.byte_answer.ensures in
     let h = input_through _ _ v.order (length v.input.now) (length v.tape.now) (length v.output.now) _ _ e
     c.in_ok-byte_answer.was in
-    let l = c.put.auto.out in (
-      record { order = h.order; long = omega (arith, h.output, l); drawn = words_reach _ v.tape.now h.drawn }
-    )
+    let l = c.put.auto.out in
+    record { order = h.order; long = omega (arith, h.output, l); drawn = words_reach _ v.tape.now h.drawn }
 
 pub returns : goal.returns
 unfolding box_outcome

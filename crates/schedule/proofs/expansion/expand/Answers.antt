@@ -11,54 +11,52 @@ use borrow.Author.Rules.{rules}
 use Rattle.schedule.proofs.expansion.expand.Goals as goal
 
 pub loop-i-init : goal.loop-i-init
-loop-i-init c = (omega arith, omega arith, refl, c.requires.0.keyed, drawing_start _ _ _ _)
+loop-i-init c = (omega arith, omega arith, refl, c.requires.keyed, drawing_start _ _ _ _)
 
 pub offset_bounds-tape-at : goal.offset_bounds-tape-at
 unfolding word_loop
 offset_bounds-tape-at c =
     let room = drawing_room c.loop-i.invariant.4 (omega arith) in
-    omega (arith, room, c.well_formed, c.requires.0.drawn, length-bytes c.args.tape.now)
+    omega (arith, room, c.well_formed, c.requires.drawn, length-bytes c.args.tape.now)
 
 pub slice_bounds-next_word-count : goal.slice_bounds-next_word-count
 unfolding word_loop
 slice_bounds-next_word-count c =
     let room = drawing_room c.loop-i.invariant.4 (omega arith) in
-    omega (arith, room, c.requires.0.drawn, length-bytes c.args.tape.now)
+    omega (arith, room, c.requires.drawn, length-bytes c.args.tape.now)
 
 pub slice_bounds-next_word-start : goal.slice_bounds-next_word-start
 unfolding word_loop
 slice_bounds-next_word-start c =
     let room = drawing_room c.loop-i.invariant.4 (omega arith) in
-    omega (arith, room, c.requires.0.drawn, length-bytes c.args.tape.now)
+    omega (arith, room, c.requires.drawn, length-bytes c.args.tape.now)
 
 pub next_word-at-requires : goal.next_word-at-requires
 unfolding word_loop
 next_word-at-requires c =
-    let fit = c.requires.0 in
+    let fit = c.requires in
     let l = c.loop-i in
-    let room = drawing_room l.invariant.4 (omega arith) in (
-      record {
-        order = fit.order;
-        some = fit.some;
-        past = l.invariant.0;
-        room = omega arith;
-        keyed = l.invariant.3;
-        drawn = omega (arith, room, fit.drawn, length-bytes c.args.tape.now, length-bytes_rest l.at c.args.tape.now);
-      },
-      search rules,
-    )
+    let room = drawing_room l.invariant.4 (omega arith) in
+    record {
+      order = fit.order;
+      some = fit.some;
+      past = l.invariant.0;
+      room = omega arith;
+      keyed = l.invariant.3;
+      drawn = omega (arith, room, fit.drawn, length-bytes c.args.tape.now, length-bytes_rest l.at c.args.tape.now);
+    }
 
 pub overflow_add-at : goal.overflow_add-at
 unfolding word_loop
 overflow_add-at c =
     let room = drawing_room c.loop-i.invariant.4 (omega arith) in
-    omega (arith, c.next_word-at.ensures.0, room, c.well_formed, c.requires.0.drawn, length-bytes c.args.tape.now)
+    omega (arith, c.next_word-at.ensures.0, room, c.well_formed, c.requires.drawn, length-bytes c.args.tape.now)
 
 pub loop-i-preserved : goal.loop-i-preserved
 unfolding word_loop
 loop-i-preserved c =
     let v = c.args in
-    let some = c.requires.0.some in
+    let some = c.requires.some in
     let l = c.loop-i in
     let q = c.next_word-at in
     let below : l.i < v.total = omega arith in

@@ -12,16 +12,14 @@ use Rattle.schedule.proofs.word.make_temp.Goals as goal
 pub turned_temp-requires : goal.turned_temp-requires
 turned_temp-requires c =
     let v = c.args in
-    let fit = c.requires.0 in
-    let e = kind_turned v.nk v.i (omega arith) in (
-      record {
-        order = fit.order;
-        some = some_turn v.nk v.i fit.some fit.past;
-        long = fit.long;
-        drawn = need_turned v.nk v.d v.i _ e fit.drawn;
-      },
-      search rules,
-    )
+    let fit = c.requires in
+    let e = kind_turned v.nk v.i (omega arith) in
+    record {
+      order = fit.order;
+      some = some_turn v.nk v.i fit.some fit.past;
+      long = fit.long;
+      drawn = need_turned v.nk v.d v.i _ e fit.drawn;
+    }
 
 pub returns-then-left-eq0 : goal.returns-then-left-eq0
 unfolding temp_need
@@ -34,9 +32,9 @@ returns-then-left-eq0 c =
 pub sub_word-requires : goal.sub_word-requires
 sub_word-requires c =
     let v = c.args in
-    let fit = c.requires.0 in
+    let fit = c.requires in
     let e = kind_subbed v.nk v.i (omega arith) (omega arith) in
-    (fit.order, fit.long, need_subbed v.nk v.d v.i _ e fit.drawn, search rules)
+    (fit.order, fit.long, need_subbed v.nk v.d v.i _ e fit.drawn)
 
 pub returns-then-left-eq4 : goal.returns-then-left-eq4
 returns-then-left-eq4 c =

@@ -12,5 +12,5 @@ pub returns : goal.returns
 returns c =
     let v = c.args in
     let word = c.sub_word-drawn.ensures in
-    let made = turned_is v.d v.j _ (bytes_of v.tape.now) v.t.now _ _ c.requires.0.long word.1 c.rot_all.ensures in
+    let made = turned_is v.d v.j _ (bytes_of v.tape.now) v.t.now _ _ c.requires.long word.1 c.rot_all.ensures in
     (word.0, made c.rcon.ensures)

@@ -9,13 +9,13 @@ use Rattle.sheet_parts.proofs.parts.pairs_row.Goals as goal
 
 pub take_row-drawn-requires : goal.take_row-drawn-requires
 take_row-drawn-requires c =
-    let f = c.requires.0 in
+    let f = c.requires in
     let e : c.args.w ≤ 8 = omega (arith, f.row.few) in
-    (f.row, record { uppers = e; halves = e; lowers = e; backs = e }, f.owns, c.requires.1)
+    (f.row, record { uppers = e; halves = e; lowers = e; backs = e }, f.owns)
 
 pub put_row-requires : goal.put_row-requires
 put_row-requires c =
-    let f = c.requires.0 in
+    let f = c.requires in
     let e : c.args.w ≤ 8 = omega (arith, f.row.few) in
     (e, f.row.drawn, record { uppers = omega (arith, c); halves = omega (arith, c); lowers = omega (arith, c); backs = omega (arith, c) }, f.room)
 

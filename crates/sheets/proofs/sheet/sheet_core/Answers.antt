@@ -8,4 +8,4 @@ use Rattle.sheets.proofs.sheet.sheet_core.Goals as goal
 pub sheet_with-requires : goal.sheet_with-requires
 sheet_with-requires c =
     let p = c.requires in
-    (p.0, record { summed = length-part_first _ _ (omega (arith, p.0.order)) ∙ add-one _; tabled = refl }, p.1, p.2)
+    (p.0, record { summed = length-part_first _ _ (omega (arith, p.0.order)) ∙ add-one _; tabled = refl }, p.1)

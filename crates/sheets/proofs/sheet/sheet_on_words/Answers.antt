@@ -13,11 +13,8 @@ unpack-requires c =
 
 pub sheet_core-requires : goal.sheet_core-requires
 sheet_core-requires c =
-    let v = c.args in (
-      factors_unpacked v.d _ v.a.now v.b.now v.tape.now c.requires.0 c.product_need.ensures _ (omega arith),
-      c.requires.1,
-      c.requires.2,
-    )
+    let v = c.args in
+    (factors_unpacked v.d _ v.a.now v.b.now v.tape.now c.requires.0 c.product_need.ensures _ (omega arith), c.requires.1)
 
 pub returns : goal.returns
 returns c =

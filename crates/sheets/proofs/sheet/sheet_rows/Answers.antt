@@ -43,7 +43,7 @@ sheet_row-drawn-requires c =
     let ts = v.tape.now in
     let r = row_fits v.d l.i l.drawn h l.invariant.1 a b ts l.sums p.0 l.invariant.5 in
     let o = row_room v.d l.i l.drawn h l.invariant.1 v.out.now l.out p.2 l.invariant.4 in
-    (r, l.invariant.6, o.1, p.3)
+    (r, l.invariant.6, o.1)
 
 pub overflow_add-drawn : goal.overflow_add-drawn
 overflow_add-drawn c =

@@ -31,7 +31,7 @@ slice_bounds-sheet_rows-start c =
 pub sheet_rows-drawn-requires : goal.sheet_rows-drawn-requires
 sheet_rows-drawn-requires c =
     let p = c.requires in
-    (p.0, p.1, omega (arith, p, place_count-parts c.args.d), p.3)
+    (p.0, p.1, omega (arith, p, place_count-parts c.args.d))
 
 pub overflow_mul-behind : goal.overflow_mul-behind
 overflow_mul-behind c =

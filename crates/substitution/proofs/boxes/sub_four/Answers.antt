@@ -19,12 +19,12 @@ need_is d first stride n e = ap (◌*◌ 4) e ∙ sym (spaced-need d first strid
 
 pub overflow_mul-box_need : goal.overflow_mul-box_need
 overflow_mul-box_need c =
-    omega (arith, c.box_need.ensures, box_need_bound c.args.d c.requires.0.order)
+    omega (arith, c.box_need.ensures, box_need_bound c.args.d c.requires.order)
 
 pub unpack-requires : goal.unpack-requires
 unpack-requires c =
     let a = c.args in
-    let fit = c.requires.0 in
+    let fit = c.requires in
     let need = need_is a.d a.first a.stride _ c.box_need.ensures in
     let bound = box_need_bound a.d fit.order in
     unpack_fits _ _ 216 a.tape.now need (reach_words _ a.tape.now fit.drawn)
@@ -33,18 +33,16 @@ unpack-requires c =
 pub sub_spaced-requires : goal.sub_spaced-requires
 sub_spaced-requires c =
     let a = c.args in
-    let fit = c.requires.0 in
-    let bound = box_need_bound a.d fit.order in (
-      record {
-        order = fit.order;
-        quarter = fit.quarter;
-        place = fit.place;
-        small = fit.small;
-        long = fit.long;
-        drawn = omega (arith, bound, spaced-need a.d a.first a.stride);
-      },
-      c.requires.1,
-    )
+    let fit = c.requires in
+    let bound = box_need_bound a.d fit.order in
+    record {
+      order = fit.order;
+      quarter = fit.quarter;
+      place = fit.place;
+      small = fit.small;
+      long = fit.long;
+      drawn = omega (arith, bound, spaced-need a.d a.first a.stride);
+    }
 
 pub returns : goal.returns
 returns c =
@@ -52,7 +50,7 @@ returns c =
     let ks = spaced a.first a.stride in
     let ss = parts (suc a.d) a.l a.s.now in
     let need = need_is a.d a.first a.stride _ c.box_need.ensures in
-    let words = reach_words _ a.tape.now c.requires.0.drawn in
+    let words = reach_words _ a.tape.now c.requires.drawn in
     let made = made_on_words (λ ts. laid (subs_of a.which a.d ks ss ts)) (subs_need a.d ks)
     (λ ts us h. ap laid (subs_of-surplus a.which a.d ks ss ts us h)) in (
       omega (arith, c.sub_spaced.ensures.0, spaced-need a.d a.first a.stride),

@@ -34,17 +34,15 @@ pub sub_four-at-requires : goal.sub_four-at-requires
 unfolding four-rows
 sub_four-at-requires c =
     let l = c.loop-r in
-    let room = buffered_room l.invariant.1 (omega arith) in (
-      record {
-        order = c.requires.0;
-        quarter = omega arith;
-        place = omega arith;
-        small = omega arith;
-        long = l.invariant.1.long;
-        drawn = omega (arith, room, c.requires.2, length-bytes c.args.tape.now, length-bytes_rest l.at c.args.tape.now);
-      },
-      search rules,
-    )
+    let room = buffered_room l.invariant.1 (omega arith) in
+    record {
+      order = c.requires.0;
+      quarter = omega arith;
+      place = omega arith;
+      small = omega arith;
+      long = l.invariant.1.long;
+      drawn = omega (arith, room, c.requires.2, length-bytes c.args.tape.now, length-bytes_rest l.at c.args.tape.now);
+    }
 
 pub overflow_add-at : goal.overflow_add-at
 unfolding four-rows

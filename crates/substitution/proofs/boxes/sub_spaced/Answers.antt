@@ -11,7 +11,7 @@ use Rattle.substitution.proofs.boxes.sub_spaced.Goals as goal
 
 pub loop-m-init : goal.loop-m-init
 loop-m-init c =
-    let fits = c.requires.0 in
+    let fits = c.requires in
     let n = spaced-count c.args.first c.args.stride c.args.l fits.quarter fits.place in
     (n, omega arith, buffered_start _ 0 _ _ _ _ fits.long)
 
@@ -38,21 +38,19 @@ unfolding four-boxes
 sub_place-at-requires c =
     let a = c.args in
     let l = c.loop-m in
-    let room = buffered_room l.invariant.2 (omega arith) in (
-      record {
-        order = c.requires.0.order;
-        place = spaced_within a.first a.stride l.m a.l (omega arith) (omega arith) (omega arith);
-        long = l.invariant.2.long;
-        drawn = omega (arith, room, length-part_rest a.tape.now l.at);
-      },
-      search rules,
-    )
+    let room = buffered_room l.invariant.2 (omega arith) in
+    record {
+      order = c.requires.order;
+      place = spaced_within a.first a.stride l.m a.l (omega arith) (omega arith) (omega arith);
+      long = l.invariant.2.long;
+      drawn = omega (arith, room, length-part_rest a.tape.now l.at);
+    }
 
 pub overflow_add-at : goal.overflow_add-at
 unfolding four-boxes
 overflow_add-at c =
     let room = buffered_room c.loop-m.invariant.2 (omega arith) in
-    omega (arith, c.sub_place-at.ensures.0, room, c.well_formed, c.requires.0.drawn)
+    omega (arith, c.sub_place-at.ensures.0, room, c.well_formed, c.requires.drawn)
 
 pub loop-m-preserved : goal.loop-m-preserved
 unfolding four-boxes
