@@ -12,10 +12,10 @@ pub fn prepare(order: usize, key: &[u8], tape: &[u32], output: &mut [u8]) -> Ans
     ensures { outcome result output.new ≡ prepare_outcome order key.now tape.now output.old }
 {
     lengths::answers::preparation_answer(order, key.len(), tape.len(), output.len())?;
-    let nk = sizes::key_words(order, key.len());
+    let size = sizes::key_words(order, key.len()).unwrap();
     let tables = Tables::new();
     Ok(Count {
-        taken: schedule::expansion::expand_core(&tables, nk, order, key, tape, output),
+        taken: schedule::expansion::expand_core(&tables, size.nk, order, key, tape, output),
     })
 }
 
@@ -37,12 +37,12 @@ pub fn encrypt_prepared(
         tape.len(),
         output.len(),
     )?;
-    let nk = sizes::prepared_words(order, prepared.len());
+    let size = sizes::prepared_words(order, prepared.len()).unwrap();
     let tables = Tables::new();
     let taken = rounds::rounds::rounds_core(
         &tables,
         Direction::Forward,
-        nk,
+        size.nk,
         order,
         prepared,
         input,

@@ -91,10 +91,10 @@ fn call(
         tape.len(),
         output.len(),
     )?;
-    let nk = sizes::key_words(order, key.len());
+    let size = sizes::key_words(order, key.len()).unwrap();
     let tables = Tables::new();
     Ok(Count {
-        taken: block_core(&tables, which, nk, order, key, input, tape, output),
+        taken: block_core(&tables, which, size.nk, order, key, input, tape, output),
     })
 }
 

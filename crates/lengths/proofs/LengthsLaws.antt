@@ -1,13 +1,15 @@
 -- What the lengths of a call say: the size of the key, and how much tape is wanted. Assumes nothing.
-use mathlib.Core.Path.{◌≡◌, refl, sym, ap, ap₂, ◌∙◌}
+use mathlib.Core.Path.{◌≡◌, refl, sym, ap, ap₂, ◌∙◌, subst}
 use mathlib.Core.List.{[], ◌∷◌}
-use Prim.Native.Nat.{ℕ, zero, suc, ◌+◌, ◌*◌, ◌-◌, ◌/◌, ◌≤◌, ◌<◌}
+use Prim.Native.Nat.{ℕ, zero, suc, ◌+◌, ◌*◌, ◌-◌, ◌/◌, ◌%◌, ◌≤◌, ◌<◌}
 use native.Mathlib.Nat.{mul-le-mul}
 use native.Mathlib.Numerals.{add-one}
 use native.Mathlib.Omega.{arith}
-use Rattle.outcomes.specs.Outcome.{one_of, share_length}
-use Rattle.outcomes.proofs.LengthsLaws.{one_of_here, one_of_next, one_of_is, one_of-each, one_of_le, none, also, share_length_16, share_length_24}
-use Rattle.outcomes.proofs.LengthsLaws.{share_length_32, share_length_cases, share_length_is}
+use Rattle.xor.proofs.Tests.{by_eq}
+use Rattle.std.specs.Prelude.{Option, Some, None}
+use Rattle.outcomes.specs.Outcome.{one_of, listed_length, key_lengths, share_length}
+use Rattle.outcomes.proofs.LengthsLaws.{one_of_here, one_of_next, one_of_is, one_of-each, listed_length-each, listed_length-some, listed_length-none, none, also, share_length_16, share_length_24}
+use Rattle.outcomes.proofs.LengthsLaws.{share_length_32, share_length_cases, share_length_is, share_length-some, share_length-none}
 use Rattle.sbox.specs.Box.{box_need, box_most}
 use Rattle.sbox.proofs.BoxLaws.{box_need_bound}
 use Rattle.cipher.specs.Fips197.{rounds}
@@ -16,6 +18,18 @@ use Rattle.cipher.proofs.NeedLaws.{schedule_need_4, schedule_need_6, schedule_ne
 use Rattle.lengths.specs.Lengths.{key_words, prepared_length, prepared_lengths, prepared_words, boxes_of, KeySize, four, six, eight}
 
 -- ---- the size of the key
+
+-- the sizes are the even numbers from 4 to 8, which is what the code's type says of one
+pub sized-even : {nk : ℕ} → KeySize nk → (4 ≤ nk) × (nk ≤ 8) × (nk % 2 ≡ 0)
+sized-even four = (omega arith, omega arith, refl)
+sized-even six = (omega arith, omega arith, refl)
+sized-even eight = (omega arith, omega arith, refl)
+
+pub even-sized : (nk : ℕ) → (4 ≤ nk) × (nk ≤ 8) × (nk % 2 ≡ 0) → KeySize nk
+even-sized nk h =
+    by_eq (λ b. KeySize nk) nk 4 (λ e. subst KeySize (sym e) four)
+    (λ f. by_eq (λ b. KeySize nk) nk 6 (λ e. subst KeySize (sym e) six)
+    (λ g. let e : nk ≡ 8 = omega arith in subst KeySize (sym e) eight))
 
 module _ (d l : ℕ) (some : 0 < key_words d l) where
   key_share : 0 < share_length (suc d) l
@@ -58,29 +72,50 @@ module _ (d l : ℕ) (some : 0 < prepared_words d l) where
       (one_of-each {P = λ s. s ≡ 16 * suc (s / 16 - 7 + 6)} (also {l = 176} refl (also {l = 208} refl (also {l = 240} refl none)))
       (suc d) l prepared_share)
 
--- the code's own count, of a length l that was looked up
-module _ (d b l : ℕ) (found : l ≡ one_of prepared_lengths (d + 1) b) where
-  looked_up : l ≡ one_of prepared_lengths (suc d) b
-  looked_up = found ∙ ap (λ (n : ℕ). one_of prepared_lengths n b) (add-one d)
+-- ---- the sizes as the code finds them, of a length that was looked up
 
-  pub prepared_words-made : l / 16 - 7 ≡ prepared_words d b
+-- what the code's type says of a size
+abbrev Sized : ℕ → Type 0
+Sized n = (4 ≤ n) × (n ≤ 8) × (n % 2 ≡ 0)
+
+module _ (d b : ℕ) (o : Option ℕ) (looked : o ≡ listed_length key_lengths (d + 1) b) where
+  pub key_words-none : o ≡ None → key_words d b ≡ 0
+  unfolding key_words
+  key_words-none e =
+      ap (λ (n : ℕ). share_length n b / 4) (sym (add-one d)) ∙ ap (λ (l : ℕ). l / 4) (share_length-none (d + 1) b (sym looked ∙ e))
+
+  module _ (l : ℕ) (e : o ≡ Some l) where
+    pub key_words-made : l / 4 ≡ key_words d b
+    unfolding key_words
+    key_words-made =
+        ap (λ (l : ℕ). l / 4) (sym (share_length-some (d + 1) b l (sym looked ∙ e)).0) ∙ ap (λ (n : ℕ). share_length n b / 4) (add-one d)
+
+    pub key_words-sized : Sized (l / 4)
+    key_words-sized =
+        listed_length-each {P = λ k. Sized (k / 4)}
+        (also (omega arith, omega arith, refl) (also (omega arith, omega arith, refl) (also (omega arith, omega arith, refl) none)))
+        (d + 1) b l (sym looked ∙ e)
+
+module _ (d b : ℕ) (o : Option ℕ) (looked : o ≡ listed_length prepared_lengths (d + 1) b) where
+  pub prepared_words-none : o ≡ None → prepared_words d b ≡ 0
   unfolding prepared_words
-  prepared_words-made = ap (λ (n : ℕ). n / 16 - 7) looked_up
+  prepared_words-none e =
+      ap (λ (n : ℕ). one_of prepared_lengths n b / 16 - 7) (sym (add-one d))
+      ∙ ap (λ (l : ℕ). l / 16 - 7) (listed_length-none prepared_lengths (d + 1) b (sym looked ∙ e))
 
-  pub prepared_words_le : l / 16 - 7 ≤ 8
-  prepared_words_le =
-      let h : one_of prepared_lengths (suc d) b ≤ 240 = one_of_le (also (omega arith) (also (omega arith) (also (omega arith) none))) (suc d) b in
-      omega (arith, looked_up)
+  module _ (l : ℕ) (e : o ≡ Some l) where
+    pub prepared_words-made : l / 16 - 7 ≡ prepared_words d b
+    unfolding prepared_words
+    prepared_words-made =
+        ap (λ (l : ℕ). l / 16 - 7) (sym (listed_length-some prepared_lengths (d + 1) b l (sym looked ∙ e)))
+        ∙ ap (λ (n : ℕ). one_of prepared_lengths n b / 16 - 7) (add-one d)
 
-  pub prepared_words-some : (l ≡ 0 → ⊥) → 7 ≤ l / 16
-  prepared_words-some h =
-      rw looked_up
-      (one_of-each {P = λ s. 7 ≤ s / 16} (also {l = 176} (omega arith) (also {l = 208} (omega arith) (also {l = 240} (omega arith) none))) (suc d) b
-      (rw looked_up at (positive l h)))
-    where
-      positive : (n : ℕ) → (n ≡ 0 → ⊥) → 0 < n
-      positive zero h = absurd (h refl)
-      positive (suc n) h = omega arith
+    pub prepared_words-sized : (7 ≤ l / 16) × Sized (l / 16 - 7)
+    prepared_words-sized =
+        listed_length-each {P = λ k. (7 ≤ k / 16) × Sized (k / 16 - 7)}
+        (also (omega arith, (omega arith, omega arith, refl))
+        (also (omega arith, (omega arith, omega arith, refl)) (also (omega arith, (omega arith, omega arith, refl)) none)))
+        (d + 1) b l (sym looked ∙ e)
 
 -- keys that were prepared have the size of their key: the three lengths differ
 pub prepared_words-of : {nk : ℕ} (d : ℕ) → KeySize nk → prepared_words d (prepared_length nk d) ≡ nk

@@ -1,14 +1,17 @@
 -- What the tests of a call say, and what is known of a call that they let through. Assumes nothing.
-use mathlib.Core.Path.{◌≡◌, sym, ap, ◌∙◌}
+use mathlib.Core.Path.{◌≡◌, refl, sym, ap, ◌∙◌, subst}
 use mathlib.Core.Bool.{true}
 use mathlib.Core.List.{List}
-use Prim.Native.Nat.{ℕ, zero, suc, ◌*◌, ◌≤◌, ◌<◌}
+use Prim.Native.Nat.{ℕ, suc, ◌*◌, ◌≤◌, ◌<◌}
 use native.Mathlib.Omega.{arith}
 use borrow.Author.Tests.{eqb-true, ltb-true, lt-ltb, le-ltb}
 use Rattle.outcomes.specs.declared.Refusal.TheVariants.{Key}
 use Rattle.outcomes.specs.declared.Count.{Count}
 use Rattle.outcomes.specs.Outcome.{Answer}
-use Rattle.std.specs.Prelude.{Ok, Err}
+use Rattle.std.specs.Prelude.{Option, Some, None, IfSome, IfNone, IsSome, Result, Ok, Err}
+use Rattle.std.specs.Option.{ok_or}
+use Rattle.lengths.specs.declared.key.KeyWords.{KeyWords}
+use Rattle.outcomes.specs.declared.Refusal.{Refusal}
 use Rattle.outcomes.specs.Outcome.{Test, answered, took, served}
 use Rattle.outcomes.proofs.OutcomeLaws.{Passed, ◌and◌, answered_here, answered_next, answered-taken, served_bounds, reaches_le}
 use Rattle.tape_words.specs.Words.{words_for}
@@ -18,16 +21,31 @@ use Rattle.lengths.specs.Previews.{keyed, block_tests, preparation_tests}
 
 -- ---- the order and the key, as the code tests them: nk words were found
 
-pub some_words : (n nk : ℕ) → n ≡ nk → (n ≡ 0 → ⊥) → 0 < nk
-some_words zero nk e h = absurd (h (omega arith))
-some_words (suc n) nk e h = omega arith
+-- a size that was looked up, behind `ok_or(..)?`
+pub size-known : (o : Option KeyWords) (n : ℕ) (k : KeyWords) → IfSome o (λ k. k.nk ≡ n) → o ≡ Some k → k.nk ≡ n
+size-known None n k h e = absurd (cc)
+size-known (Some j) n k h e = let z : j ≡ k = cc in subst (λ (i : KeyWords). i.nk ≡ n) z h
+
+pub size-there : (o : Option KeyWords) (n : ℕ) → IfNone o (n ≡ 0) → 0 < n → IsSome o
+size-there None n h p = absurd (omega arith)
+size-there (Some j) n h p = refl
+
+pub size-found : (o : Option KeyWords) (r : Refusal) (q : Result KeyWords Refusal) (n : ℕ) (k : KeyWords)
+    → q ≡ ok_or o r → IfSome o (λ k. k.nk ≡ n) → q ≡ Ok k → k.nk ≡ n
+size-found None r q n k e h f = absurd (cc)
+size-found (Some j) r q n k e h f = let z : j ≡ k = cc in subst (λ (i : KeyWords). i.nk ≡ n) z h
+
+pub size-missing : (o : Option KeyWords) (r : Refusal) (q : Result KeyWords Refusal) (n : ℕ) (s : Refusal)
+    → q ≡ ok_or o r → IfNone o (n ≡ 0) → q ≡ Err s → (n ≡ 0) × (s ≡ r)
+size-missing None r q n s e h f = (h, cc)
+size-missing (Some j) r q n s e h f = absurd (cc)
 
 module _ (d nk : ℕ) (ts : List Test) (k : Count) where
-  pub keyed-none : (n : ℕ) → n ≡ nk → served d ≡ true → n ≡ 0 → Err Key ≡ answered (keyed d nk ts) k
-  keyed-none n e u z = answered_next _ _ _ k u (answered_here _ _ _ k (le-ltb 0 nk (omega arith)))
+  pub keyed-none : served d ≡ true → nk ≡ 0 → Err Key ≡ answered (keyed d nk ts) k
+  keyed-none u z = answered_next _ _ _ k u (answered_here _ _ _ k (le-ltb 0 nk (omega arith)))
 
-  pub keyed-some : (n : ℕ) (a : Answer) → n ≡ nk → served d ≡ true → (n ≡ 0 → ⊥) → a ≡ answered ts k → a ≡ answered (keyed d nk ts) k
-  keyed-some n a e u h f = answered_next _ _ _ k u (answered_next _ _ _ k (lt-ltb 0 nk (some_words n nk e h)) f)
+  pub keyed-some : (n : ℕ) (a : Answer) → n ≡ nk → served d ≡ true → 4 ≤ n → a ≡ answered ts k → a ≡ answered (keyed d nk ts) k
+  keyed-some n a e u h f = answered_next _ _ _ k u (answered_next _ _ _ k (lt-ltb 0 nk (omega arith)) f)
 
 -- ---- a call that is let through
 

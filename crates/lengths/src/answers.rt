@@ -36,11 +36,8 @@ pub fn single_answer(order: usize, key: usize, input: usize, tape: usize, output
     if !outcomes::asked::served(order) {
         return Err(Refusal::Order);
     }
-    let nk = sizes::key_words(order, key);
-    if nk == 0 {
-        return Err(Refusal::Key);
-    }
-    let need = tape_words::words_for(needs::cipher_need(nk, order));
+    let size = sizes::key_words(order, key).ok_or(Refusal::Key)?;
+    let need = tape_words::words_for(needs::cipher_need(size, order));
     block_answer(need, order, input, tape, output)
 }
 
@@ -59,11 +56,8 @@ pub fn prepared_answer(
     if !outcomes::asked::served(order) {
         return Err(Refusal::Order);
     }
-    let nk = sizes::prepared_words(order, prepared);
-    if nk == 0 {
-        return Err(Refusal::Key);
-    }
-    let need = tape_words::words_for(needs::encrypted_with_need(nk, order));
+    let size = sizes::prepared_words(order, prepared).ok_or(Refusal::Key)?;
+    let need = tape_words::words_for(needs::encrypted_with_need(size, order));
     block_answer(need, order, input, tape, output)
 }
 
@@ -74,14 +68,11 @@ pub fn preparation_answer(order: usize, key: usize, tape: usize, output: usize) 
     if !outcomes::asked::served(order) {
         return Err(Refusal::Order);
     }
-    let nk = sizes::key_words(order, key);
-    if nk == 0 {
-        return Err(Refusal::Key);
-    }
-    if output != sizes::prepared_length(nk, order) {
+    let size = sizes::key_words(order, key).ok_or(Refusal::Key)?;
+    if output != sizes::prepared_length(size.nk, order) {
         return Err(Refusal::Output);
     }
-    let words = tape_words::words_for(needs::schedule_need(nk, order));
+    let words = tape_words::words_for(needs::schedule_need(size, order));
     if tape < words {
         return Err(Refusal::Tape);
     }

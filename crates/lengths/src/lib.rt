@@ -6,6 +6,7 @@
 #![tactic(auto)]
 
 pub mod answers;
+pub mod key;
 pub mod needs;
 pub mod previews;
 pub mod sizes;

@@ -2,8 +2,9 @@
 ghost use Rattle.std.specs.Prelude.{◌≡◌, ◌*◌, ◌≤◌};
 ghost use Rattle.cipher.specs.Cipher as Cipher;
 ghost use Rattle.sbox.specs.Box as Box;
-ghost use Rattle.lengths.specs.Lengths.{KeySize};
 ghost use Rattle.lengths.specs.Lengths.{boxes_of};
+
+use crate::key::KeyWords;
 
 // How many S-boxes a key expansion has.
 fn key_boxes(nk: usize) -> usize
@@ -19,25 +20,25 @@ fn key_boxes(nk: usize) -> usize
 }
 
 // How many bytes a key expansion draws.
-pub fn schedule_need(nk: usize, d: usize) -> usize
-    requires { (d ≤ 8) × KeySize nk }
-    ensures { (result ≡ Cipher.schedule_need nk d) × (result ≤ 52 * Box.box_most) }
+pub fn schedule_need(key: KeyWords, d: usize) -> usize
+    requires { d ≤ 8 }
+    ensures { (result ≡ Cipher.schedule_need key.nk d) × (result ≤ 52 * Box.box_most) }
 {
-    key_boxes(nk) * sbox::boxes::box_need(d)
+    key_boxes(key.nk) * sbox::boxes::box_need(d)
 }
 
 // How many bytes the rounds draw, either way: 16 S-boxes each.
-pub fn encrypted_with_need(nk: usize, d: usize) -> usize
-    requires { (d ≤ 8) × KeySize nk }
-    ensures { (result ≡ Cipher.encrypted_with_need nk d) × (result ≤ 224 * Box.box_most) }
+pub fn encrypted_with_need(key: KeyWords, d: usize) -> usize
+    requires { d ≤ 8 }
+    ensures { (result ≡ Cipher.encrypted_with_need key.nk d) × (result ≤ 224 * Box.box_most) }
 {
-    16 * (nk + 6) * sbox::boxes::box_need(d)
+    16 * (key.nk + 6) * sbox::boxes::box_need(d)
 }
 
 // How many bytes an encryption or decryption draws, with its key expansion.
-pub fn cipher_need(nk: usize, d: usize) -> usize
-    requires { (d ≤ 8) × KeySize nk }
-    ensures { result ≡ Cipher.cipher_need nk d }
+pub fn cipher_need(key: KeyWords, d: usize) -> usize
+    requires { d ≤ 8 }
+    ensures { result ≡ Cipher.cipher_need key.nk d }
 {
-    schedule_need(nk, d) + encrypted_with_need(nk, d)
+    schedule_need(key, d) + encrypted_with_need(key, d)
 }

@@ -1,13 +1,17 @@
 // Which size of key a call has, by the length of its shares or of its prepared keys. Document 01, and document 02, wish 1, decide.
-ghost use Rattle.std.specs.Prelude.{◌≡◌, ◌≤◌};
+ghost use Rattle.std.specs.Prelude.{◌≡◌, ◌≤◌, IfSome, IfNone};
 ghost use Rattle.lengths.specs.Lengths.{key_words, prepared_length, prepared_words};
 
-// How many words the key has, by the length of its shares: 4, 6 or 8, or 0 where that is no key's length.
-pub fn key_words(d: usize, length: usize) -> usize
+use crate::key::KeyWords;
+
+// The size of the key, by the length of its shares, if that is a key's.
+pub fn key_words(d: usize, length: usize) -> Option<KeyWords>
     requires { d ≤ 8 }
-    ensures { (result ≡ key_words d length) × (result ≤ 8) }
+    ensures some { IfSome result (λ k. k.nk ≡ key_words d length) }
+    ensures none { IfNone result (key_words d length ≡ 0) }
 {
-    outcomes::asked::share_length(d + 1, length) / 4
+    let l = outcomes::asked::share_length(d + 1, length)?;
+    Some(KeyWords { nk: l / 4 })
 }
 
 // The length of prepared keys: d + 1 shares of nk + 7 round keys.
@@ -18,14 +22,12 @@ pub fn prepared_length(nk: usize, d: usize) -> usize
     (d + 1) * (16 * (nk + 7))
 }
 
-// How many words the key behind prepared keys has, by their length: 4, 6 or 8, or 0 where that is none of the three.
-pub fn prepared_words(d: usize, length: usize) -> usize
+// The size of the key behind prepared keys, by their length, if that is one of the three.
+pub fn prepared_words(d: usize, length: usize) -> Option<KeyWords>
     requires { d ≤ 8 }
-    ensures { (result ≡ prepared_words d length) × (result ≤ 8) }
+    ensures some { IfSome result (λ k. k.nk ≡ prepared_words d length) }
+    ensures none { IfNone result (prepared_words d length ≡ 0) }
 {
-    let l = outcomes::asked::one_of(&[176, 208, 240], d + 1, length);
-    if l == 0 {
-        return 0;
-    }
-    l / 16 - 7
+    let l = outcomes::asked::one_of(&[176, 208, 240], d + 1, length)?;
+    Some(KeyWords { nk: l / 16 - 7 })
 }

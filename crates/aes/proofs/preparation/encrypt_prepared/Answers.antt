@@ -9,7 +9,7 @@ use Rattle.tape_words.proofs.WordsLaws.{words_reach, whole_words}
 use Rattle.cipher.specs.Cipher.{encrypted_with_need, encrypted_with_laid}
 use Rattle.lengths.specs.Lengths.{prepared_words}
 use Rattle.lengths.proofs.LengthsLaws.{prepared_long}
-use Rattle.lengths.proofs.PreviewsLaws.{block_through}
+use Rattle.lengths.proofs.PreviewsLaws.{size-known, size-there, block_through}
 use Rattle.aes.specs.Calls.{encrypt_prepared_outcome}
 use Rattle.aes.proofs.CallsLaws.{prepared_keys_length, encrypted_with-made}
 use Rattle.aes.proofs.preparation.encrypt_prepared.Goals as goal
@@ -18,13 +18,22 @@ pub returns-in_err-prepared_answer : goal.returns-in_err-prepared_answer
 unfolding encrypt_prepared_outcome
 returns-in_err-prepared_answer c = settled-handed _ _ _ _ _ c.prepared_answer.ensures _ c.in_err-prepared_answer.was _ c.from_residual.ensures.1
 
-pub prepared_words-nk-requires : goal.prepared_words-nk-requires
-prepared_words-nk-requires c =
+pub prepared_words-requires : goal.prepared_words-requires
+prepared_words-requires c =
     let a = c.args in
     let nk = prepared_words a.order (length a.prepared.now) in
     (block_through nk (words_for (encrypted_with_need nk a.order)) a.order (length a.input.now) (length a.tape.now)
     (length a.output.now) _ _ _
     c.prepared_answer.ensures c.in_ok-prepared_answer.was).order
+
+pub unwrap-size-requires : goal.unwrap-size-requires
+unwrap-size-requires c =
+    let a = c.args in
+    let nk = prepared_words a.order (length a.prepared.now) in
+    size-there _ _ c.prepared_words.ensures.none
+    (block_through nk (words_for (encrypted_with_need nk a.order)) a.order (length a.input.now) (length a.tape.now)
+    (length a.output.now) _ _ _
+    c.prepared_answer.ensures c.in_ok-prepared_answer.was).some
 
 pub rounds_core-taken-requires : goal.rounds_core-taken-requires
 rounds_core-taken-requires c =
@@ -34,21 +43,21 @@ rounds_core-taken-requires c =
     (length a.output.now) _ _ _
     c.prepared_answer.ensures c.in_ok-prepared_answer.was
     in
-    let w = c.prepared_words-nk.ensures in
+    let w = size-known _ _ _ c.prepared_words.ensures.some c.unwrap-size.ensures in
     record {
         order = t.order;
-        small = w.1;
-        keyed = rw w.0 (prepared_keys_length _ a.order _ (prepared_long a.order (length a.prepared.now) t.some));
+        small = c.unwrap-size.result.sized.1;
+        keyed = rw w (prepared_keys_length _ a.order _ (prepared_long a.order (length a.prepared.now) t.some));
         input = t.input;
         output = t.output;
-        drawn = rw w.0 (words_reach _ a.tape.now t.drawn);
+        drawn = rw w (words_reach _ a.tape.now t.drawn);
       }
 
 pub returns : goal.returns
 unfolding encrypt_prepared_outcome
 returns c =
     let a = c.args in
-    let w = c.prepared_words-nk.ensures.0 in
+    let w = size-known _ _ _ c.prepared_words.ensures.some c.unwrap-size.ensures in
     let made = c.rounds_core-taken.ensures in
     settled-done _ _ _ _ _ c.prepared_answer.ensures _ _ _ c.in_ok-prepared_answer.was
     (ap took (whole_words _ _ made.0 ∙ ap (λ (n : ℕ). words_for (encrypted_with_need n a.order)) w))

@@ -8,7 +8,7 @@ use Rattle.tape_words.specs.Words.{bytes_of, words_for}
 use Rattle.tape_words.proofs.WordsLaws.{words_reach, whole_words}
 use Rattle.cipher.specs.Cipher.{schedule_need, prepared_laid}
 use Rattle.lengths.proofs.LengthsLaws.{key_length}
-use Rattle.lengths.proofs.PreviewsLaws.{preparation_through}
+use Rattle.lengths.proofs.PreviewsLaws.{size-known, size-there, preparation_through}
 use Rattle.aes.specs.Calls.{prepare_outcome}
 use Rattle.aes.proofs.CallsLaws.{prepared_keys_length, prepared_made}
 use Rattle.aes.proofs.preparation.prepare.Goals as goal
@@ -17,11 +17,18 @@ pub returns-in_err-preparation_answer : goal.returns-in_err-preparation_answer
 unfolding prepare_outcome
 returns-in_err-preparation_answer c = settled-handed _ _ _ _ _ c.preparation_answer.ensures _ c.in_err-preparation_answer.was _ c.from_residual.ensures.1
 
-pub key_words-nk-requires : goal.key_words-nk-requires
-key_words-nk-requires c =
+pub key_words-requires : goal.key_words-requires
+key_words-requires c =
     let a = c.args in
     (preparation_through a.order (length a.key.now) (length a.tape.now) (length a.output.now) _ _ _
     c.preparation_answer.ensures c.in_ok-preparation_answer.was).order
+
+pub unwrap-size-requires : goal.unwrap-size-requires
+unwrap-size-requires c =
+    let a = c.args in
+    size-there _ _ c.key_words.ensures.none
+    (preparation_through a.order (length a.key.now) (length a.tape.now) (length a.output.now) _ _ _
+    c.preparation_answer.ensures c.in_ok-preparation_answer.was).some
 
 pub expand_core-requires : goal.expand_core-requires
 expand_core-requires c =
@@ -29,21 +36,21 @@ expand_core-requires c =
     let t = preparation_through a.order (length a.key.now) (length a.tape.now) (length a.output.now) _ _ _
     c.preparation_answer.ensures c.in_ok-preparation_answer.was
     in
-    let w = c.key_words-nk.ensures in
+    let w = size-known _ _ _ c.key_words.ensures.some c.unwrap-size.ensures in
     record {
         order = t.order;
-        some = rw w.0 t.some;
-        small = w.1;
-        long = rw w.0 (key_length a.order (length a.key.now) t.some);
-        keyed = rw w.0 (prepared_keys_length _ a.order _ t.output);
-        drawn = rw w.0 (words_reach _ a.tape.now t.drawn);
+        some = rw w t.some;
+        small = c.unwrap-size.result.sized.1;
+        long = rw w (key_length a.order (length a.key.now) t.some);
+        keyed = rw w (prepared_keys_length _ a.order _ t.output);
+        drawn = rw w (words_reach _ a.tape.now t.drawn);
       }
 
 pub returns : goal.returns
 unfolding prepare_outcome
 returns c =
     let a = c.args in
-    let w = c.key_words-nk.ensures.0 in
+    let w = size-known _ _ _ c.key_words.ensures.some c.unwrap-size.ensures in
     let made = c.expand_core.ensures in
     settled-done _ _ _ _ _ c.preparation_answer.ensures _ _ _ c.in_ok-preparation_answer.was
     (ap took (whole_words _ _ made.0 ∙ ap (λ (n : ℕ). words_for (schedule_need n a.order)) w))

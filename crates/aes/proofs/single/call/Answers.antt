@@ -9,7 +9,7 @@ use Rattle.tape_words.proofs.WordsLaws.{words_reach, whole_words}
 use Rattle.cipher.specs.Cipher.{cipher_need}
 use Rattle.lengths.specs.Lengths.{key_words}
 use Rattle.lengths.proofs.LengthsLaws.{key_length}
-use Rattle.lengths.proofs.PreviewsLaws.{block_through}
+use Rattle.lengths.proofs.PreviewsLaws.{size-known, size-there, block_through}
 use Rattle.aes.specs.Directions.{laid_of}
 use Rattle.aes.proofs.CallsLaws.{single_is}
 use Rattle.aes.proofs.single.call.Goals as goal
@@ -20,13 +20,22 @@ returns-in_err-single_answer c =
     settled-handed _ _ _ _ _ c.single_answer.ensures _ c.in_err-single_answer.was _ c.from_residual.ensures.1
     ∙ single_is a.which a.order a.key.now a.input.now a.tape.now a.output.now
 
-pub key_words-nk-requires : goal.key_words-nk-requires
-key_words-nk-requires c =
+pub key_words-requires : goal.key_words-requires
+key_words-requires c =
     let a = c.args in
     let nk = key_words a.order (length a.key.now) in
     (block_through nk (words_for (cipher_need nk a.order)) a.order (length a.input.now) (length a.tape.now)
     (length a.output.now) _ _ _
     c.single_answer.ensures c.in_ok-single_answer.was).order
+
+pub unwrap-size-requires : goal.unwrap-size-requires
+unwrap-size-requires c =
+    let a = c.args in
+    let nk = key_words a.order (length a.key.now) in
+    size-there _ _ c.key_words.ensures.none
+    (block_through nk (words_for (cipher_need nk a.order)) a.order (length a.input.now) (length a.tape.now)
+    (length a.output.now) _ _ _
+    c.single_answer.ensures c.in_ok-single_answer.was).some
 
 pub block_core-requires : goal.block_core-requires
 block_core-requires c =
@@ -36,21 +45,21 @@ block_core-requires c =
     (length a.output.now) _ _ _
     c.single_answer.ensures c.in_ok-single_answer.was
     in
-    let w = c.key_words-nk.ensures in
+    let w = size-known _ _ _ c.key_words.ensures.some c.unwrap-size.ensures in
     record {
         order = t.order;
-        some = rw w.0 t.some;
-        small = w.1;
-        long = rw w.0 (key_length a.order (length a.key.now) t.some);
+        some = rw w t.some;
+        small = c.unwrap-size.result.sized.1;
+        long = rw w (key_length a.order (length a.key.now) t.some);
         input = t.input;
         output = t.output;
-        drawn = rw w.0 (words_reach _ a.tape.now t.drawn);
+        drawn = rw w (words_reach _ a.tape.now t.drawn);
       }
 
 pub returns : goal.returns
 returns c =
     let a = c.args in
-    let w = c.key_words-nk.ensures.0 in
+    let w = size-known _ _ _ c.key_words.ensures.some c.unwrap-size.ensures in
     let made = c.block_core.ensures in
     settled-done _ _ _ _ _ c.single_answer.ensures _ _ _ c.in_ok-single_answer.was
     (ap took (whole_words _ _ made.0 ∙ ap (λ (n : ℕ). words_for (cipher_need n a.order)) w))

@@ -1,17 +1,13 @@
 -- `lengths::sizes::key_words` meets its contract. Assumes nothing.
-use mathlib.Core.Path.{ap, ◌∙◌}
-use Prim.Native.Nat.{ℕ, ◌≤◌, ◌+◌, ◌/◌}
-use native.Mathlib.Numerals.{add-one}
-use native.Mathlib.Omega.{arith}
-use Rattle.outcomes.specs.Outcome.{share_length}
-use Rattle.outcomes.proofs.LengthsLaws.{share_length_le}
-use Rattle.lengths.specs.Lengths.{key_words}
+use Rattle.lengths.proofs.LengthsLaws.{key_words-none, key_words-made, key_words-sized}
 use Rattle.lengths.proofs.sizes.key_words.Goals as goal
 
-pub returns : goal.returns
-unfolding key_words
-returns c =
-    let a = c.args in
-    let e = c.share_length.ensures in
-    let h : c.share_length.result / 4 ≤ 8 = omega (arith, share_length_le (a.d + 1) a.length) in
-    (ap (λ (l : ℕ). l / 4) (e ∙ ap (λ (n : ℕ). share_length n a.length) (add-one a.d)), h)
+pub returns-in_err-l-clause-none : goal.returns-in_err-l-clause-none
+returns-in_err-l-clause-none c =
+    rw c.from_residual.ensures (key_words-none c.args.d c.args.length _ c.share_length.ensures c.in_err-l.was)
+
+pub invariant_of-result : goal.invariant_of-result
+invariant_of-result c = record { sized = key_words-sized c.args.d c.args.length _ c.share_length.ensures c.in_ok-l.l c.in_ok-l.was }
+
+pub returns-clause-some : goal.returns-clause-some
+returns-clause-some c = key_words-made c.args.d c.args.length _ c.share_length.ensures c.in_ok-l.l c.in_ok-l.was
