@@ -15,6 +15,6 @@ pub fn returned(answer: Answer, taken: &mut usize) -> u32
             *taken = k.taken;
             0
         }
-        Err(r) => outcomes::asked::number(r),
+        Err(r) => r.number(),
     }
 }
