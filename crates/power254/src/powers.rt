@@ -15,8 +15,8 @@ pub fn raise(logs: &Logs, antilogs: &Antilogs, which: Exponent, x: &[u8], z: &mu
     requires { (length z.old ≡ length x.now) × Tables logs.now antilogs.now }
     ensures { z.new ≡ map (raised_to which) x.now }
 {
-    for k in 0..x.len() {
-        z[k] = gf256::powers::raised(logs, antilogs, which, x[k]);
+    for (k, byte) in x.iter().enumerate() {
+        z[k] = gf256::powers::raised(logs, antilogs, which, *byte);
     }
 }
 
