@@ -8,7 +8,7 @@ use native.Mathlib.Numerals.{add-one}
 use borrow.Rule.Slice.PartMut.{put_mid}
 use lib.ListN.{length, take, drop, length-append, length-drop, drop_of_length-le}
 use lib.Seq.{drop-drop, take_at, drop_at, length-take-le}
-use Rattle.shares.specs.Strings.{Shares, more, parts, laid}
+use Rattle.shares.specs.Strings.{Shares, parts, laid}
 use Rattle.xor.specs.Writes.{front}
 use Rattle.xor.proofs.WriteLaws.{front-all}
 use Rattle.cipher.specs.States.{each_by}
@@ -31,7 +31,7 @@ each_by_last f i (x ∷ a) s =
     (each_by_last f (suc i) a s
     ∙ ap (λ (m : ℕ). each_by f (suc i) a ++ (f m s ∷ [])) (suc-add i (length a) ∙ sym (add-suc i (length a))))
 
-each_by-map : (f : List ℕ → List ℕ) (i : ℕ) (ss : Shares) → each_by (λ i. f) i ss ≡ map f ss
+pub each_by-map : (f : List ℕ → List ℕ) (i : ℕ) (ss : Shares) → each_by (λ i. f) i ss ≡ map f ss
 unfolding each_by
 each_by-map f i [] = refl
 each_by-map f i (s ∷ ss) = ap (◌∷◌ (f s)) (each_by-map f (suc i) ss)

@@ -1,13 +1,15 @@
--- A linear step of a state makes a state; ShiftRows by how far its rows go, and MixColumns by its columns, either way. Assumes nothing.
+-- A linear step of a state makes a state; ShiftRows by how far its rows go, and MixColumns by its columns, either way;
+-- RotWord by its front and its back. Assumes nothing.
 use mathlib.Core.Path.{◌≡◌, refl}
-use mathlib.Core.List.{List}
+use mathlib.Core.List.{List, ◌++◌}
 use Prim.Native.Nat.{ℕ, ◌+◌}
-use lib.ListN.{length}
+use lib.ListN.{length, take, drop}
+use Rattle.xor.specs.Lists.{at, tab, runs}
 use Rattle.gf256.specs.declared.Direction.{Direction}
 use Rattle.gf256.specs.declared.Direction.TheVariants.{Forward, Inverse}
 use Rattle.gf256.specs.Directions.{mixed_of}
-use Rattle.cipher.specs.Fips197.{cell, state, shift_rows, mix_columns, inv_shift_rows, inv_mix_columns}
-use Rattle.cipher.proofs.FipsLaws.{shift_rows-length, mix_columns-length, inv_shift_rows-length, inv_mix_columns-length}
+use Rattle.cipher.specs.Fips197.{cell, state, shift_rows, mix_columns, inv_shift_rows, inv_mix_columns, rot_word}
+use Rattle.cipher.proofs.FipsLaws.{every, shift_rows-length, mix_columns-length, inv_shift_rows-length, inv_mix_columns-length}
 use Rattle.linear.specs.declared.Step.{Step}
 use Rattle.linear.specs.declared.Step.TheVariants.{ShiftRows, MixColumns}
 use Rattle.linear.specs.Steps.{turn_of, stepped}
@@ -28,3 +30,8 @@ pub columns_mixed : (w : Direction) (s : List ℕ)
 unfolding mix_columns inv_mix_columns
 columns_mixed Forward s = refl
 columns_mixed Inverse s = refl
+
+-- RotWord of a word
+pub word_turned : (w : List ℕ) → length w ≡ 4 → drop 1 w ++ take 1 w ≡ rot_word w
+unfolding rot_word at tab runs
+word_turned = every 4 (λ w. drop 1 w ++ take 1 w ≡ rot_word w) (λ a b c d. refl)

@@ -8,7 +8,9 @@ ghost use Rattle.linear.specs.Steps.{stepped, turn_of};
 ghost use Rattle.linear.specs.declared.Step.TheVariants.{ShiftRows, MixColumns};
 
 use crate::Step;
+use buffers::each::each_share;
 use gf256::Direction;
+use shares::bytes::xor_into;
 
 // How many columns to the left row r goes.
 fn turn(which: Direction, r: usize) -> usize
@@ -26,10 +28,10 @@ fn shift_rows(which: Direction, t: &[u8], s: &mut [u8])
     requires { (length t.now ≡ 16) × (length s.old ≡ 16) }
     ensures { s.new ≡ stepped ShiftRows which t.now }
 {
-    for k in 0..16 {
+    for (k, byte) in s.iter_mut().enumerate() {
         let r = k % 4;
         let c = k / 4 + turn(which, r);
-        s[k] = t[r + 4 * (c % 4)];
+        *byte = t[r + 4 * (c % 4)];
     }
 }
 
@@ -38,10 +40,10 @@ fn mix_columns(which: Direction, t: &[u8], s: &mut [u8])
     requires { (length t.now ≡ 16) × (length s.old ≡ 16) }
     ensures { s.new ≡ stepped MixColumns which t.now }
 {
-    for k in 0..16 {
+    for (k, byte) in s.iter_mut().enumerate() {
         let r = k % 4;
         let c = 4 * (k / 4);
-        s[k] = byte_maps::mixed_of(
+        *byte = byte_maps::mixed_of(
             which,
             t[c + r],
             t[c + (r + 1) % 4],
@@ -77,11 +79,7 @@ pub fn step_all(step: Step, which: Direction, d: usize, s: &mut [u8])
     requires { (d ≤ 8) × (length s.old ≡ suc d * 16) }
     ensures { s.new ≡ laid (map (stepped step which) (parts (suc d) 16 s.old)) }
 {
-    for i in 0..d + 1 {
-        let a = i * 16;
-        let e = a + 16;
-        step_share(step, which, &mut s[a..e]);
-    }
+    each_share(d, 16, s, |_, share| step_share(step, which, share));
 }
 
 // Round key r into each share; the keys have m bytes in each share.
@@ -90,25 +88,10 @@ pub fn add_key(d: usize, m: usize, r: usize, keys: &[u8], s: &mut [u8])
     ensures { s.new
         ≡ laid (adds (parts (suc d) 16 s.old) (round_keys (parts (suc d) m keys.now) r)) }
 {
-    for i in 0..d + 1 {
-        let a = i * 16;
-        let e = a + 16;
+    each_share(d, 16, s, |i, share| {
         let b = i * m + 16 * r;
-        let f = b + 16;
-        shares::bytes::xor_into(&keys[b..f], &mut s[a..e]);
-    }
-}
-
-// RotWord of the word s of one share.
-fn rot_word(s: &mut [u8])
-    requires { length s.old ≡ 4 }
-    ensures { s.new ≡ Fips197.rot_word s.old }
-{
-    let first = s[0];
-    s[0] = s[1];
-    s[1] = s[2];
-    s[2] = s[3];
-    s[3] = first;
+        xor_into(&keys[b..b + 16], share);
+    });
 }
 
 // RotWord of each share.
@@ -116,9 +99,5 @@ pub fn rot_all(d: usize, s: &mut [u8])
     requires { (d ≤ 8) × (length s.old ≡ suc d * 4) }
     ensures { s.new ≡ laid (map Fips197.rot_word (parts (suc d) 4 s.old)) }
 {
-    for i in 0..d + 1 {
-        let a = i * 4;
-        let e = a + 4;
-        rot_word(&mut s[a..e]);
-    }
+    each_share(d, 4, s, |_, word| word.rotate_left(1));
 }

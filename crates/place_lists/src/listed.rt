@@ -11,14 +11,7 @@ use outcomes::{Answer, Count, Refusal};
 fn all_below(size: usize, list: &[u16]) -> bool
     ensures { result ≡ Listed.all_below size list.now }
 {
-    let mut ok = true;
-    for k in 0..list.len() {
-        let p = list[k] as usize;
-        if size <= p {
-            ok = false;
-        }
-    }
-    ok
+    list.iter().all(|p| usize::from(*p) < size)
 }
 
 // The tests that a reading has behind the sheet's, on numbers alone: 4, 6 and 7.
@@ -42,9 +35,8 @@ fn pick_listed(sheet: &[u8], list: &[u16], output: &mut [u8])
     requires { (length output.old ≡ length list.now) × (Listed.all_below (length sheet.now) list.now ≡ true) }
     ensures { output.new ≡ Place.listed sheet.now list.now }
 {
-    for k in 0..list.len() {
-        let p = list[k] as usize;
-        output[k] = sheet[p];
+    for (k, p) in list.iter().enumerate() {
+        output[k] = sheet[usize::from(*p)];
     }
 }
 

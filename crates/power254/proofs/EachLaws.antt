@@ -1,8 +1,10 @@
 -- A function over each entry of a list, the first entry first, in place or into another list. Assumes nothing.
 use mathlib.Core.Path.{◌≡◌, refl, sym, ap, ◌∙◌}
 use mathlib.Core.List.{List, [], ◌∷◌, map}
-use Prim.Native.Nat.{ℕ, ◌+◌, ◌<◌}
-use lib.ListN.{length, get_or, set}
+use Prim.Native.Nat.{ℕ, ◌+◌, ◌≤◌, ◌<◌}
+use native.Mathlib.Omega.{arith}
+use lib.ListN.{length, get_or, set, take}
+use lib.Seq.{get_or-take}
 use Rattle.xor.specs.Lists.{at, runs, tab}
 use Rattle.xor.proofs.ListsLaws.{getD_tab, map-tab, tab-at}
 use Rattle.xor.proofs.WriteLaws.{over, over_none, over_more, over_all, over_at}
@@ -36,9 +38,17 @@ module _ (f : ℕ → ℕ) where
   unfolding each
   each_all k y xs e h = over_map k y xs xs e h refl
 
--- a list of the numbers 0 to 8
-pub numbered : (k : ℕ) → k < 9 → get_or (0 ∷ 1 ∷ 2 ∷ 3 ∷ 4 ∷ 5 ∷ 6 ∷ 7 ∷ 8 ∷ []) k 0 ≡ k
+-- ---- a list of the numbers 0 to 8
+
+abbrev pub numbers : List ℕ
+numbers = 0 ∷ 1 ∷ 2 ∷ 3 ∷ 4 ∷ 5 ∷ 6 ∷ 7 ∷ 8 ∷ []
+
+numbered : (k : ℕ) → k < 9 → get_or numbers k 0 ≡ k
 numbered k h = ap (λ (l : List ℕ). get_or l k 0) all ∙ getD_tab (λ q. q) 9 k 0 h
   where
-    all : (0 ∷ 1 ∷ 2 ∷ 3 ∷ 4 ∷ 5 ∷ 6 ∷ 7 ∷ 8 ∷ []) ≡ tab (λ q. q) 9
+    all : numbers ≡ tab (λ q. q) 9
     all = unfold tab runs in refl
+
+-- the first n of them
+pub first_numbered : (n k : ℕ) → n ≤ 9 → k < n → get_or (take n numbers) k 0 ≡ k
+first_numbered n k h g = get_or-take n numbers k 0 g ∙ numbered k (omega arith)

@@ -14,8 +14,8 @@ pub fn raise(tables: &Tables, which: Exponent, x: &[u8], z: &mut [u8])
     requires { (length z.old ≡ length x.now) }
     ensures { z.new ≡ map (raised_to which) x.now }
 {
-    for k in 0..x.len() {
-        z[k] = tables.raised(which, x[k]);
+    for (k, byte) in x.iter().enumerate() {
+        z[k] = tables.raised(which, *byte);
     }
 }
 

@@ -17,8 +17,8 @@ fn affine_all(which: Direction, x: &mut [u8])
     ensures { x.new ≡ map (affine_of which) x.old }
 {
     let numbers = [0u8, 1, 2, 3, 4, 5, 6, 7, 8];
-    for k in 0..x.len() {
-        let i = numbers[k] as usize;
+    for number in &numbers[..x.len()] {
+        let i = usize::from(*number);
         x[i] = byte_maps::affine(which, x[i]);
     }
 }

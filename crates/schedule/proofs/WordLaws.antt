@@ -2,8 +2,8 @@
 use mathlib.Core.Path.{◌≡◌, refl, sym, ap, ap₂, ◌∙◌}
 use mathlib.Core.Bool.{Bool, true, false, cond, ◌&&◌}
 use mathlib.Core.List.{List, [], ◌∷◌, ◌++◌, map, append_assoc}
-use Prim.Native.Nat.{ℕ, suc, ◌+◌, ◌*◌, ◌-◌, ◌/◌, ◌%◌, ◌≤◌, ◌<◌}
-use native.Mathlib.Nat.{div-eq-sub-div}
+use Prim.Native.Nat.{ℕ, zero, suc, ◌+◌, ◌*◌, ◌-◌, ◌/◌, ◌%◌, ◌≤◌, ◌<◌}
+use native.Mathlib.Nat.{div-eq-sub-div, add-zero}
 use native.Mathlib.Omega.{arith}
 use native.Mathlib.Numerals.{add-one}
 use borrow.Author.Tests.{eq-eqb, ne_eqb, lt-ltb}
@@ -14,6 +14,7 @@ use lib.Seq.{drop-cons, set_at, take-suc, take_all, length-take-le, get_or-take,
 use Rattle.xor.specs.Lists.{at}
 use Rattle.xor.specs.Sums.{xors}
 use Rattle.xor.proofs.StringLaws.{at-xors, length_both}
+use Rattle.std.specs.List.{fold, range_with_len}
 use Rattle.gf256.specs.Field.{doubled, power}
 use Rattle.gf256.proofs.ProductLaws.{times_two}
 use Rattle.shares.specs.Strings.{Shares, Shared, alone, more, parts, laid}
@@ -32,11 +33,17 @@ use Rattle.buffers.proofs.SecondLaws.{share_long, word-part, word-long}
 
 -- ---- Rcon
 
-pub doubled_again : (i r : ℕ) → 1 ≤ i → r ≡ power 2 (i - 1) → doubled r ≡ power 2 (i + 1 - 1)
+doubled_on : (m i n : ℕ) → fold (λ a x. doubled a) (power 2 m) (range_with_len i n) ≡ power 2 (m + n)
 unfolding power
-doubled_again i r h e =
-    let q : i + 1 - 1 ≡ suc (i - 1) = omega arith in
-    ap doubled e ∙ sym (ap (power 2) q ∙ times_two (power 2 (i - 1)))
+doubled_on m i zero = ap (power 2) (sym (add-zero m))
+doubled_on m i (suc n) =
+    ap (λ (a : ℕ). fold (λ a x. doubled a) a (range_with_len (i + 1) n)) (sym (times_two (power 2 m)))
+    ∙ doubled_on (suc m) (i + 1) n ∙ ap (power 2) (let e : suc m + n ≡ m + suc n = omega arith in e)
+
+-- 1 doubled at each of n numbers
+pub doubled_each : (i n : ℕ) → fold (λ a x. doubled a) 1 (range_with_len i n) ≡ power 2 n
+unfolding power
+doubled_each i n = doubled_on 0 i n ∙ ap (power 2) (let e : 0 + n ≡ n = omega arith in e)
 
 -- ---- word w of share i, copied
 

@@ -5,7 +5,9 @@ ghost use Rattle.shares.specs.Strings.{parts, laid};
 ghost use Rattle.cipher.specs.Cipher.{schedule_from, schedule_from_need, schedule, schedule_need};
 ghost use Rattle.schedule.specs.Stored.{written, ExpandFits, ExpansionFits};
 
+use buffers::each::each_share;
 use gf256::Tables;
+use shares::bytes::put;
 
 // All words from nk on, ascending. Answers with how many words were drawn.
 fn expand(
@@ -34,13 +36,10 @@ fn copy_key(d: usize, l: usize, m: usize, key: &[u8], keys: &mut [u8])
     requires { (d ≤ 8) × (l ≤ m) × (length key.now ≡ suc d * l) × (length keys.old ≡ suc d * m) }
     ensures { map (take l) (parts (suc d) m keys.new) ≡ parts (suc d) l key.now }
 {
-    for i in 0..d + 1 {
+    each_share(d, m, keys, |i, share| {
         let a = i * l;
-        let e = a + l;
-        let b = i * m;
-        let f = b + m;
-        shares::bytes::put(&key[a..e], &mut keys[b..f]);
-    }
+        put(&key[a..a + l], share);
+    });
 }
 
 // The round keys in shares, share after share. Answers with how many words were drawn.

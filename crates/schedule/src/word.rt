@@ -9,18 +9,16 @@ ghost use Rattle.cipher.specs.States.{each_by};
 ghost use Rattle.cipher.specs.Cipher.{subs_need, in_word, words, masked_temp, temp_need};
 ghost use Rattle.schedule.specs.Stored.{stored, word_stored, StoreFits, TurnedFits, TempFits, WordFits};
 
+use buffers::each::each_share;
 use gf256::Tables;
+use shares::bytes::put;
 
 // The first byte of Rcon[j]: 02 to the power j - 1.
 fn rcon(j: usize) -> u8
     requires { 1 ≤ j }
     ensures { result ≡ power 2 (j - 1) }
 {
-    let mut r: u8 = 1;
-    for i in 1..j {
-        r = gf256::double(r);
-    }
-    r
+    (1..j).fold(1, |r, _| gf256::double(r))
 }
 
 // Word w of each share.
@@ -28,13 +26,10 @@ fn fetch(d: usize, m: usize, w: usize, keys: &[u8], t: &mut [u8])
     requires { (d ≤ 8) × (4 * w + 4 ≤ m) × (length keys.now ≡ suc d * m) × (length t.old ≡ suc d * 4) }
     ensures { t.new ≡ laid (words (parts (suc d) m keys.now) w) }
 {
-    for i in 0..d + 1 {
-        let a = i * 4;
-        let e = a + 4;
+    each_share(d, 4, t, |i, word| {
         let b = i * m + 4 * w;
-        let f = b + 4;
-        shares::bytes::put(&keys[b..f], &mut t[a..e]);
-    }
+        put(&keys[b..b + 4], word);
+    });
 }
 
 // Word i of one share k, from its word i - nk and the temporary word t.
@@ -44,8 +39,8 @@ fn store_word(nk: usize, i: usize, t: &[u8], k: &mut [u8])
         ≡ take (4 * i) k.old
         ++ (xors (word k.old (i - nk)) t.now ++ drop (4 * i + 4) k.old) }
 {
-    for b in 0..4 {
-        k[4 * i + b] = k[4 * (i - nk) + b] ^ t[b];
+    for (b, byte) in t.iter().enumerate() {
+        k[4 * i + b] = k[4 * (i - nk) + b] ^ *byte;
     }
 }
 
@@ -55,13 +50,10 @@ fn store_all(nk: usize, d: usize, m: usize, i: usize, t: &[u8], keys: &mut [u8])
     ensures { keys.new
         ≡ laid (each_by (stored nk i t.now) 0 (parts (suc d) m keys.old)) }
 {
-    for j in 0..d + 1 {
-        let a = j * m;
-        let e = a + m;
+    each_share(d, m, keys, |j, share| {
         let b = j * 4;
-        let f = b + 4;
-        store_word(nk, i, &t[b..f], &mut keys[a..e]);
-    }
+        store_word(nk, i, &t[b..b + 4], share);
+    });
 }
 
 // The temporary word where i is a multiple of nk: S-boxes, RotWord, and Rcon into share 0. Answers with how many words were drawn.

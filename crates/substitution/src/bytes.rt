@@ -3,13 +3,15 @@ ghost use Rattle.std.specs.Prelude.{◌≡◌, suc, ◌*◌, ◌<◌, ◌≤◌,
 ghost use Rattle.shares.specs.Strings.{parts, laid};
 ghost use Rattle.cipher.specs.States.{column, put};
 
+use buffers::each::each_share;
+
 // The shares of byte k.
 pub fn gather(d: usize, l: usize, k: usize, s: &[u8], x: &mut [u8])
     requires { (d ≤ 8) × (k < l) × (length s.now ≡ suc d * l) × (length x.old ≡ suc d) }
     ensures { x.new ≡ column k (parts (suc d) l s.now) }
 {
-    for i in 0..d + 1 {
-        x[i] = s[i * l + k];
+    for (i, byte) in x.iter_mut().enumerate() {
+        *byte = s[i * l + k];
     }
 }
 
@@ -18,7 +20,5 @@ pub fn scatter(d: usize, l: usize, k: usize, x: &[u8], s: &mut [u8])
     requires { (d ≤ 8) × (k < l) × (length s.old ≡ suc d * l) × (length x.now ≡ suc d) }
     ensures { s.new ≡ laid (put (parts (suc d) l s.old) k x.now) }
 {
-    for i in 0..d + 1 {
-        s[i * l + k] = x[i];
-    }
+    each_share(d, l, s, |i, share| share[k] = x[i]);
 }

@@ -1,9 +1,9 @@
 -- `linear::steps::mix_columns` meets its contract. Assumes nothing.
 use mathlib.Core.List.{List}
-use mathlib.Core.Path.{◌≡◌, refl, ap, ◌∙◌}
+use mathlib.Core.Path.{◌≡◌, ap, ◌∙◌}
 use Prim.Native.Nat.{ℕ, ◌<◌, ◌+◌, ◌*◌, ◌/◌, ◌%◌}
 use native.Mathlib.Omega.{arith}
-use lib.ListN.{get_or, length-set}
+use lib.ListN.{get_or}
 use Rattle.xor.specs.Lists.{at}
 use Rattle.gf256.specs.declared.Direction.{Direction}
 use Rattle.gf256.specs.Directions.{mixed_of}
@@ -29,18 +29,18 @@ read : (w : Direction) (t : List ℕ) (k : ℕ) → k < 16
 read w t k h = cc (read_first t k h, read_next t k 1 h, read_next t k 2 h, read_next t k 3 h)
 
 pub loop-k-init : goal.loop-k-init
-loop-k-init c = (omega arith, over_none _ _, refl)
+loop-k-init c = over_none _ _
 
 pub loop-k-preserved : goal.loop-k-preserved
 loop-k-preserved c =
     let a = c.args in
     let l = c.loop-k in
     let byte = c.mixed_of.ensures ∙ read a.which a.t.now l.k (omega arith) in
-    (omega arith, over_more _ l.k _ l.s a.s.now l.invariant.1 byte (omega arith), simp length-set (omega arith))
+    over_more _ l.k _ l.s a.s.now l.invariant byte (omega arith)
 
 pub returns : goal.returns
 unfolding state
 returns c =
     let a = c.args in
     let e : c.loop-k.k ≡ 16 = omega arith in
-    over_all _ 16 _ _ (rw e at c.loop-k.invariant.1) (omega arith) ∙ columns_mixed a.which a.t.now
+    over_all _ 16 _ _ (rw e at c.loop-k.invariant) (omega arith) ∙ columns_mixed a.which a.t.now

@@ -1,8 +1,7 @@
 -- `linear::steps::mix_columns` meets its contract. Assumes nothing.
 use mathlib.Core.List.{List}
 use mathlib.Core.Path.{◌≡◌}
-use Prim.Native.Nat.{ℕ, ◌≤◌, ◌+◌, ◌/◌, ◌%◌, ◌-◌}
-use lib.ListN.{length}
+use Prim.Native.Nat.{ℕ, ◌+◌, ◌/◌, ◌%◌}
 use Rattle.gf256.specs.declared.Direction.{Direction}
 use Rattle.gf256.specs.Directions.{mixed_of}
 use Rattle.xor.proofs.WriteLaws.{over}
@@ -14,7 +13,4 @@ abbrev pub mixed_byte : Direction → List ℕ → ℕ → ℕ
 mixed_byte w t k = mixed_of w (cell t (k % 4) (k / 4)) (cell t (k % 4 + 1) (k / 4)) (cell t (k % 4 + 2) (k / 4)) (cell t (k % 4 + 3) (k / 4))
 
 abbrev pub invariant-loop-k : goal.invariant-loop-k
-invariant-loop-k l = (l.k ≤ 16) × (l.s ≡ over (mixed_byte l.which l.t) l.k l.initial.s) × (length l.s ≡ length l.initial.s)
-
-abbrev pub decreases-loop-k : goal.decreases-loop-k
-decreases-loop-k l = 16 - l.k
+invariant-loop-k l = l.s ≡ over (mixed_byte l.which l.t) l.k l.initial.s

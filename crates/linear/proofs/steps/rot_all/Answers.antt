@@ -1,26 +1,19 @@
 -- `linear::steps::rot_all` meets its contract. Assumes nothing.
-use mathlib.Core.Path.{refl}
-use Prim.Native.Nat.{suc, ◌*◌, ◌+◌, ◌-◌}
-use native.Mathlib.Omega.{arith}
+use mathlib.Core.Path.{◌≡◌, ap, ◌∙◌}
+use mathlib.Core.List.{◌++◌}
+use lib.ListN.{take, drop}
+use Rattle.shares.specs.Strings.{laid}
 use Rattle.cipher.specs.Fips197.{rot_word}
 use Rattle.cipher.proofs.FipsLaws.{rot_word-length}
-use Rattle.buffers.proofs.ShareLaws.{done_none, done_more, done-map}
+use Rattle.buffers.proofs.ShareLaws.{each_by-map}
+use Rattle.linear.proofs.StepLaws.{word_turned}
 use borrow.Author.Rules.{rules}
 use Rattle.linear.proofs.steps.rot_all.Goals as goal
 
-pub loop-i-init : goal.loop-i-init
-loop-i-init c = (omega arith, omega arith, done_none (λ i. rot_word) 4 _, refl)
-
-pub loop-i-preserved : goal.loop-i-preserved
-loop-i-preserved c =
-    let l = c.loop-i in
-    let n = suc c.args.d in (
-      omega arith,
-      omega arith,
-      done_more (λ i. rot_word) 4 n (λ i u s h. rot_word-length s) _ l.s _ l.i (l.i * 4) (l.i * 4 + 4 - l.i * 4) refl (omega arith)
-          (omega arith) (omega arith) l.invariant.2 c.rot_word.ensures,
-      search rules,
-    )
-
 pub returns : goal.returns
-returns c = done-map rot_word 4 _ _ _ _ (omega arith) (omega arith) c.loop-i.invariant.2
+returns c =
+    c.each_share.ensures (λ _. rot_word) (record {
+      made = λ i p q u h e. (let k : q.now ≡ drop 1 p.now ++ take 1 p.now = search rules in k ∙ word_turned p.now h);
+      keeps = λ i u s h. rot_word-length s;
+    })
+    ∙ ap laid (each_by-map rot_word 0 _)

@@ -1,15 +1,8 @@
 -- `place_lists::listed::pick_listed` meets its contract. Assumes nothing.
 use mathlib.Core.Path.{◌≡◌}
-use Prim.Native.Nat.{◌≤◌, ◌-◌}
-use lib.ListN.{length}
 use Rattle.xor.specs.Lists.{at}
 use Rattle.xor.proofs.WriteLaws.{over}
 use Rattle.place_lists.proofs.listed.pick_listed.Given as goal
 
 abbrev pub invariant-loop-k : goal.invariant-loop-k
-invariant-loop-k l =
-    (l.k ≤ l.k-end) × (l.k-end ≡ length l.list) × (l.output ≡ over (λ q. at l.sheet (at l.list q)) l.k l.initial.output)
-    × (length l.output ≡ length l.initial.output)
-
-abbrev pub decreases-loop-k : goal.decreases-loop-k
-decreases-loop-k l = l.k-end - l.k
+invariant-loop-k l = l.output ≡ over (λ q. at l.sheet (at l.list q)) l.k l.initial.output

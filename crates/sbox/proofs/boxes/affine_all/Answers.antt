@@ -1,40 +1,30 @@
 -- `sbox::boxes::affine_all` meets its contract. Assumes nothing.
-use mathlib.Core.Path.{refl}
+use mathlib.Core.Path.{◌∙◌}
+use Prim.Native.Nat.{◌<◌}
 use native.Mathlib.Omega.{arith}
-use lib.ListN.{length-set}
-use Rattle.power254.proofs.EachLaws.{each_none, each_named, each_all, numbered}
-use borrow.Author.Rules.{rules}
+use lib.ListN.{length}
+use lib.Seq.{length-take-le}
+use Rattle.power254.proofs.EachLaws.{each_none, each_named, each_all, numbers, first_numbered}
 use Rattle.sbox.proofs.boxes.affine_all.Goals as goal
 
-pub loop-k-init : goal.loop-k-init
-loop-k-init c = (search rules, refl, each_none _ _, refl, search rules, numbered)
-
-pub overflow_cast-i : goal.overflow_cast-i
-overflow_cast-i c =
-    let l = c.loop-k in
-    omega (arith, c, l.invariant.5 l.k (omega (arith, c)))
+pub loop-number-init : goal.loop-number-init
+loop-number-init c = each_none _ _
 
 pub bounds-x-i : goal.bounds-x-i
 bounds-x-i c =
-    let l = c.loop-k in
-    omega (arith, l.invariant.5 l.k (omega arith))
+    let x = c.args.x.now in
+    let long = length-take-le (length x) numbers c.requires in
+    omega (arith, first_numbered (length x) c.loop-number.number-index c.requires (omega arith))
 
-pub bounds-x-i-in-loop-k : goal.bounds-x-i-in-loop-k
-bounds-x-i-in-loop-k c =
-    let l = c.loop-k in
-    omega (arith, l.invariant.5 l.k (omega arith))
-
-pub loop-k-preserved : goal.loop-k-preserved
-loop-k-preserved c =
-    let l = c.loop-k in
-    let n = l.invariant.5 l.k (omega arith) in (
-      omega arith,
-      search rules,
-      each_named _ _ _ _ _ _ n l.invariant.2 c.affine.ensures (omega arith),
-      simp length-set (omega arith),
-      search rules,
-      l.invariant.5,
-    )
+pub loop-number-preserved : goal.loop-number-preserved
+loop-number-preserved c =
+    let x = c.args.x.now in
+    let l = c.loop-number in
+    let long = length-take-le (length x) numbers c.requires in
+    let here : l.number-index < length x = omega arith in
+    each_named _ _ _ _ _ _ (c.from-i.ensures ∙ first_numbered (length x) l.number-index c.requires here) l.invariant c.affine.ensures here
 
 pub returns : goal.returns
-returns c = each_all _ _ _ _ c.loop-k.invariant.2 (omega arith)
+returns c =
+    let long = length-take-le (length c.args.x.now) numbers c.requires in
+    each_all _ _ _ _ c.loop-number.invariant (omega arith)
