@@ -14,13 +14,11 @@ pub fn xor_parts(d: usize, bytes: &[u8], x: &mut [u8]) -> usize
         × (x.new ≡ xors x.old (joined_string (parts d (length x.old) bytes.now))) }
 {
     let l = x.len();
-    let mut at: usize = 0;
+    // Kept: parts by number. chunks_exact() takes no length 0, and x may be empty.
     for i in 0..d {
-        let e = at + l;
-        crate::bytes::xor_into(&bytes[at..e], x);
-        at = e;
+        crate::bytes::xor_into(&bytes[i * l..(i + 1) * l], x);
     }
-    at
+    d * l
 }
 
 fn join_core(d: usize, l: usize, input: &[u8], output: &mut [u8])
