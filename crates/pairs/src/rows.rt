@@ -23,15 +23,11 @@ pub fn sum_row(
 {
     let start = sums[i];
     let mut s = start;
-    let mut drawn: usize = 0;
-    for m in 0..w {
-        let j = i + 1 + m;
-        let r = tape[drawn];
-        drawn += 1;
-        s = s ^ r;
+    for (m, r) in tape[..w].iter().enumerate() {
+        s ^= *r;
         own[m] = s;
-        sums[j] = sums[j] ^ back[m];
+        sums[i + 1 + m] ^= back[m];
     }
     sums[i] = own[w - 1];
-    drawn
+    w
 }
