@@ -10,6 +10,8 @@
 // - every row that carries a chain is read by a later loop;
 // - a running sum is a scan: each sum is stored, and the last is read back at an index that is known only when it runs;
 // - after any change, run tests/machine/run. It tests the built library: every byte that the machine holds is a function of one place.
+//
+// Kept: loops by a number where rows go side by side and one is written. Of a row that iter_mut() under zip() lent, a proof knows the length alone.
 ghost use Rattle.std.specs.Prelude.{◌≡◌, ◌+◌, ◌≤◌, ◌<◌, length};
 ghost use Rattle.std.specs.Int.Bits.{bit_xor};
 ghost use Rattle.xor.specs.Lists.{at, tab};
@@ -53,15 +55,12 @@ fn half_row(
         × (half.new ≡ front (tab (Steps.halves a.now b.now tape.now i) w) half.old) }
 {
     let ai = a[i];
-    let mut drawn: usize = 0;
-    for m in 0..w {
-        let r = tape[drawn];
-        drawn += 1;
+    for (m, r) in tape[..w].iter().enumerate() {
         let c = table_times(logs, antilogs, ai, b[i + 1 + m]);
         upper[m] = c;
-        half[m] = r ^ c;
+        half[m] = *r ^ c;
     }
-    drawn
+    w
 }
 
 // Their second half: r(j, i) is what the first half left XOR a_j · b_i.
