@@ -1,5 +1,7 @@
 // The parts of a product's sheet: each is some bytes that the product's own routines left, put where their places are. Document 01, "Places in one
 // product", decides.
+// Kept: loops by a number where rows go side by side, or where a part of out is written. Of what chunks_exact_mut() or iter_mut() under zip() lent, a
+// proof knows the length alone.
 ghost use Rattle.std.specs.Prelude.{◌≡◌, ◌+◌, ◌*◌, ◌≤◌, length};
 ghost use Rattle.xor.specs.Lists.{at};
 ghost use Rattle.xor.specs.Running.{running, owns};
@@ -51,8 +53,7 @@ fn put_row(
             lower: lower[m],
             back: back[m],
         };
-        let at = 5 * m;
-        put_pair(p, &mut out[at..]);
+        put_pair(p, &mut out[5 * m..]);
     }
 }
 
@@ -61,8 +62,8 @@ pub fn put_starts(n: usize, sums: &[u8], table: &mut [u8])
     requires { (n ≤ 9) × (length sums.now ≡ n) × (length table.old ≡ 81) }
     ensures { table.new ≡ starts_put (at sums.now) table.old n }
 {
-    for k in 0..n {
-        table[k * 9] = sums[k];
+    for (k, sum) in sums[..n].iter().enumerate() {
+        table[k * 9] = *sum;
     }
 }
 
@@ -142,11 +143,7 @@ pub fn put_table(n: usize, table: &[u8], out: &mut [u8])
     requires { (n ≤ 9) × (length table.now ≡ 81) × (n * n ≤ length out.old) }
     ensures { out.new ≡ front (table_rows n table.now n) out.old }
 {
-    let mut filled: usize = 0;
     for k in 0..n {
-        let start = k * 9;
-        let end = start + n;
-        shares::bytes::put(&table[start..end], &mut out[filled..]);
-        filled += n;
+        shares::bytes::put(&table[k * 9..k * 9 + n], &mut out[k * n..]);
     }
 }
