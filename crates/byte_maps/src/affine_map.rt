@@ -16,9 +16,9 @@ fn by_rows(rows: &[u8], constant: u8, a: u8) -> u8
     ensures { result ≡ Field.affine_by rows.now constant a }
 {
     let mut r: u8 = 0;
-    for i in 0..8 {
-        let n = u8::count_ones(a & rows[i]) % 2;
-        r = r ^ ((n as u8) << i);
+    for (i, row) in rows.iter().enumerate() {
+        let n = u8::count_ones(a & *row) % 2;
+        r ^= (n as u8) << i;
     }
     r ^ constant
 }

@@ -24,9 +24,7 @@ pub fn times(a: u8, b: u8) -> u8
     ensures { result ≡ Field.times a b }
 {
     let mut p: u8 = 0;
-    let mut k: u8 = 8;
-    while 0 < k {
-        k -= 1;
+    for k in (0u8..8).rev() {
         let added = if_set((b >> k) & 1, a);
         p = double(p) ^ added;
     }

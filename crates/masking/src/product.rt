@@ -9,6 +9,7 @@ ghost use Rattle.masking.specs.Steps;
 ghost use Rattle.masking.specs.Fits.{FactorsFit, RowFits};
 ghost use Rattle.masking.specs.Calls.{two_fit, factor_tests, product_outcome};
 
+use crate::steps::Rows;
 use gf256::Tables;
 use outcomes::{Answer, Count, Refusal};
 
@@ -72,15 +73,8 @@ fn product_row(
     ensures { (result ≡ w)
         × (sums.new ≡ Steps.pairs_taken a.now b.now tape.now i w sums.old) }
 {
-    let mut upper = [0u8; 8];
-    let mut half = [0u8; 8];
-    let mut lower = [0u8; 8];
-    let mut back = [0u8; 8];
-    let mut own = [0u8; 8];
-    crate::steps::take_row(
-        tables, i, w, a, b, tape, &mut upper, &mut half, &mut lower, &mut back, &mut own,
-        sums,
-    )
+    let mut rows = Rows::new();
+    crate::steps::take_row(tables, i, w, a, b, tape, &mut rows, sums)
 }
 
 // All pairs, in the order of the draws, into the sums, which have their starts. Answers with how many bytes were drawn.

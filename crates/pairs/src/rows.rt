@@ -24,13 +24,11 @@ pub fn sum_row(
     let start = sums[i];
     let mut s = start;
     let mut drawn: usize = 0;
-    for m in 0..w {
-        let j = i + 1 + m;
-        let r = tape[drawn];
+    for (m, r) in tape[..w].iter().enumerate() {
         drawn += 1;
-        s = s ^ r;
+        s ^= *r;
         own[m] = s;
-        sums[j] = sums[j] ^ back[m];
+        sums[i + 1 + m] ^= back[m];
     }
     sums[i] = own[w - 1];
     drawn

@@ -37,6 +37,7 @@ pub fn refresh_core(d: usize, tape: &[u8], x: &mut [u8]) -> usize
 {
     let mut own = [0u8; 8];
     let mut drawn: usize = 0;
+    // Kept: the place on the tape is counted. Each row draws a byte fewer than the one before, so no chunks of one length are the rows.
     for i in 0..d {
         drawn += refresh_row(i, d - i, &tape[drawn..], &mut own, x);
     }

@@ -1,5 +1,7 @@
 // The places of a refresh: each is a byte that the refresh's own routine left, put where its place is. No byte is computed here.
 // Document 02, wish 8, decides.
+// Kept: loops by a number. Of what chunks_exact_mut() lent, a proof knows the length alone; and each row draws a byte fewer than the one before, so
+// no chunks of one length are the rows.
 ghost use Rattle.std.specs.Prelude.{◌≡◌, [], ◌∷◌, ◌*◌, ◌≤◌, length};
 ghost use Rattle.xor.specs.Lists.{at};
 ghost use Rattle.xor.specs.Running.{row_taken};
@@ -28,8 +30,7 @@ fn put_threes(i: usize, w: usize, tape: &[u8], own: &[u8], x: &[u8], out: &mut [
         ≡ front (three_rows i tape.now own.now x.now w) out.old }
 {
     for m in 0..w {
-        let at = 3 * m;
-        put_three(tape[m], own[m], x[i + 1 + m], &mut out[at..]);
+        put_three(tape[m], own[m], x[i + 1 + m], &mut out[3 * m..]);
     }
 }
 
@@ -54,8 +55,7 @@ pub fn refresh_shown(d: usize, tape: &[u8], x: &mut [u8], out: &mut [u8]) -> usi
 {
     let mut drawn: usize = 0;
     for i in 0..d {
-        let at = 3 * drawn;
-        drawn += sheet_row(i, d - i, &tape[drawn..], x, &mut out[at..]);
+        drawn += sheet_row(i, d - i, &tape[drawn..], x, &mut out[3 * drawn..]);
     }
     drawn
 }

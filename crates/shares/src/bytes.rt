@@ -8,9 +8,7 @@ pub fn put(x: &[u8], out: &mut [u8])
     requires { length x.now ≤ length out.old }
     ensures { out.new ≡ front x.now out.old }
 {
-    for k in 0..x.len() {
-        out[k] = x[k];
-    }
+    out[..x.len()].copy_from_slice(x);
 }
 
 // y XORed into x.
@@ -18,7 +16,8 @@ pub fn xor_into(y: &[u8], x: &mut [u8])
     requires { length y.now ≡ length x.old }
     ensures { x.new ≡ xors x.old y.now }
 {
-    for k in 0..y.len() {
-        x[k] = x[k] ^ y[k];
+    // Kept: an index for x. Of a slice that iter_mut() under zip() lent, a proof knows the length alone afterwards.
+    for (k, b) in y.iter().enumerate() {
+        x[k] ^= *b;
     }
 }

@@ -14,6 +14,8 @@ pub fn xor_parts(d: usize, bytes: &[u8], x: &mut [u8]) -> usize
         × (x.new ≡ xors x.old (joined_string (parts d (length x.old) bytes.now))) }
 {
     let l = x.len();
+    // Kept: the place is counted, since in a splitting it is the count of the tape's bytes, which document 01 has rise with each draw; and
+    // chunks_exact() takes no length 0, which x may have.
     let mut at: usize = 0;
     for i in 0..d {
         let e = at + l;

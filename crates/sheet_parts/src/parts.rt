@@ -1,16 +1,19 @@
 // The parts of a product's sheet: each is some bytes that the product's own routines left, put where their places are. Document 01, "Places in one
 // product", decides.
+//
+// Kept: loops by a number where rows go side by side, or where a part of out is written. Of what chunks_exact_mut() or iter_mut() under zip() lent, a
+// proof knows the length alone.
 ghost use Rattle.std.specs.Prelude.{◌≡◌, ◌+◌, ◌*◌, ◌≤◌, length};
 ghost use Rattle.xor.specs.Lists.{at};
-ghost use Rattle.xor.specs.Running.{running, owns};
+ghost use Rattle.xor.specs.Running.{running};
 ghost use Rattle.xor.specs.Writes.{front};
 ghost use Rattle.masking.specs.Steps as Steps;
-ghost use Rattle.masking.specs.Fits.{RowFits, RowsFit};
-ghost use Rattle.sheet_parts.specs.Fits.{PairsFit};
+ghost use Rattle.masking.specs.Fits.{RowFits};
 ghost use Rattle.sheet_parts.specs.Parts.{bytes_of, five_rows, row_bytes, starts_put, row_put, table_rows};
 
 use crate::Pair;
 use gf256::Tables;
+use masking::steps::Rows;
 
 // The five bytes of a pair, over the front of out. It is a call of its own in the built library too: inlined, the loop over pairs becomes one over
 // vectors, in whose registers bytes of two places are ORed.
@@ -26,32 +29,22 @@ fn put_pair(p: Pair, out: &mut [u8])
     out[4] = p.back;
 }
 
-// The pairs of a row whose bytes stand at the fronts of five rows, over the front of out.
-fn put_row(
-    w: usize,
-    tape: &[u8],
-    upper: &[u8],
-    half: &[u8],
-    lower: &[u8],
-    back: &[u8],
-    out: &mut [u8],
-)
-    requires { (w ≤ 8) × (w ≤ length tape.now) × RowsFit w upper.now half.now lower.now back.now
-        × (5 * w ≤ length out.old) }
+// The pairs of a row, whose bytes stand on the tape and at the fronts of the rows, over the front of out.
+fn put_row(w: usize, tape: &[u8], rows: &Rows, out: &mut [u8])
+    requires { (w ≤ 8) × (w ≤ length tape.now) × (5 * w ≤ length out.old) }
     ensures { out.new
-        ≡ front (five_rows tape.now upper.now half.now lower.now back.now w)
+        ≡ front (five_rows tape.now rows.now.upper rows.now.half rows.now.lower rows.now.back w)
         out.old }
 {
     for m in 0..w {
         let p = Pair {
             drawn: tape[m],
-            upper: upper[m],
-            half: half[m],
-            lower: lower[m],
-            back: back[m],
+            upper: rows.upper[m],
+            half: rows.half[m],
+            lower: rows.lower[m],
+            back: rows.back[m],
         };
-        let at = 5 * m;
-        put_pair(p, &mut out[at..]);
+        put_pair(p, &mut out[5 * m..]);
     }
 }
 
@@ -60,8 +53,8 @@ pub fn put_starts(n: usize, sums: &[u8], table: &mut [u8])
     requires { (n ≤ 9) × (length sums.now ≡ n) × (length table.old ≡ 81) }
     ensures { table.new ≡ starts_put (at sums.now) table.old n }
 {
-    for k in 0..n {
-        table[k * 9] = sums[k];
+    for (k, sum) in sums[..n].iter().enumerate() {
+        table[k * 9] = *sum;
     }
 }
 
@@ -76,35 +69,6 @@ fn put_sums(i: usize, w: usize, own: &[u8], sums: &[u8], table: &mut [u8])
         table[i * 9 + j] = own[m];
         table[j * 9 + next] = sums[j];
     }
-}
-
-// Row i of the pairs as the product takes it, over the front of out, and share i's own running sums, over the front of own.
-// Answers with how many bytes were drawn.
-fn pairs_row(
-    tables: &Tables,
-    i: usize,
-    w: usize,
-    a: &[u8],
-    b: &[u8],
-    tape: &[u8],
-    own: &mut [u8],
-    sums: &mut [u8],
-    out: &mut [u8],
-) -> usize
-    requires { PairsFit i w a.now b.now tape.now own.old sums.old out.old }
-    ensures { (result ≡ w) × (out.new ≡ front (row_bytes a.now b.now tape.now i w) out.old)
-        × (own.new ≡ front (owns tape.now sums.old i w) own.old)
-        × (sums.new ≡ Steps.pairs_taken a.now b.now tape.now i w sums.old) }
-{
-    let mut upper = [0u8; 8];
-    let mut half = [0u8; 8];
-    let mut lower = [0u8; 8];
-    let mut back = [0u8; 8];
-    let drawn = masking::steps::take_row(
-        tables, i, w, a, b, tape, &mut upper, &mut half, &mut lower, &mut back, own, sums,
-    );
-    put_row(w, tape, &upper, &half, &lower, &back, out);
-    drawn
 }
 
 // Row i of the pairs, over the front of out, and what it made of the running sums, into the table. Answers with how many bytes were drawn.
@@ -128,9 +92,10 @@ pub fn sheet_row(
         ≡ row_put i (λ m. running (at sums.old i) (at tape.now) (m + 1))
         (at sums.new) table.old w) }
 {
-    let mut own = [0u8; 8];
-    let drawn = pairs_row(tables, i, w, a, b, tape, &mut own, sums, out);
-    put_sums(i, w, &own, sums, table);
+    let mut rows = Rows::new();
+    let drawn = masking::steps::take_row(tables, i, w, a, b, tape, &mut rows, sums);
+    put_row(w, tape, &rows, out);
+    put_sums(i, w, &rows.own, sums, table);
     drawn
 }
 
@@ -139,11 +104,7 @@ pub fn put_table(n: usize, table: &[u8], out: &mut [u8])
     requires { (n ≤ 9) × (length table.now ≡ 81) × (n * n ≤ length out.old) }
     ensures { out.new ≡ front (table_rows n table.now n) out.old }
 {
-    let mut filled: usize = 0;
     for k in 0..n {
-        let start = k * 9;
-        let end = start + n;
-        shares::bytes::put(&table[start..end], &mut out[filled..]);
-        filled += n;
+        shares::bytes::put(&table[k * 9..k * 9 + n], &mut out[k * n..]);
     }
 }

@@ -1,18 +1,19 @@
 -- Laws of a tape of words: how long its bytes are, and that the part from word k on is the part from byte 4k on. Assumes nothing.
-use mathlib.Core.Path.{◌≡◌, refl, sym, ap, ◌∙◌}
-use mathlib.Core.List.{List, [], ◌∷◌, ◌++◌}
-use Prim.Native.Nat.{ℕ, zero, suc, ◌+◌, ◌*◌, ◌-◌, ◌/◌, ◌%◌, ◌≤◌, ◌<◌}
-use native.Mathlib.Nat.{add-zero}
-use native.Mathlib.Omega.{arith}
-use lib.ListN.{length, take, drop, get_or, set, get_or-append}
-use lib.Seq.{take-nil, drop-nil}
-use Rattle.xor.specs.Lists.{at}
+use Rattle.std.proofs.Common.{◌≡◌, ℕ, zero, suc, ◌+◌, ◌*◌, ◌-◌, ◌/◌, ◌%◌, ◌≤◌, ◌<◌, List, [], ◌∷◌, ◌++◌, length, take, drop, get_or, refl, sym, ap, ◌∙◌, append_assoc, length-append, arith}
+use Rattle.std.proofs.Math.Seq.{take-nil, drop-nil, take_at, drop_at, drop-drop, length-take-le}
+use Rattle.std.proofs.lemmas.List.{take_more}
+use Rattle.std.specs.Int.{to_le_bytes}
+use Rattle.std.specs.Int.Width.{w32}
+use borrow.Rule.Slice.PartMut.{put_mid}
 use Rattle.xor.specs.Writes.{front}
-use Rattle.xor.proofs.ListsLaws.{tab-take}
-use Rattle.xor.proofs.WriteLaws.{part_rest, length-part_rest, over, over_more, over_front}
+use Rattle.xor.proofs.WriteLaws.{part_rest, length-part_rest}
 use Rattle.tape_words.specs.Words.{word_bytes, bytes_of, words_for}
 
 -- ---- lengths
+
+length-word : (v : ℕ) → length (word_bytes v) ≡ 4
+unfolding word_bytes
+length-word v = refl
 
 pub length-bytes : (ws : List ℕ) → length (bytes_of ws) ≡ 4 * length ws
 unfolding bytes_of word_bytes
@@ -57,51 +58,33 @@ bytes-part k ws = bytes_rest k ws ∙ sym (part_rest (bytes_of ws) (4 * k))
 pub length-bytes_rest : (k : ℕ) (ws : List ℕ) → length (bytes_of (take (length ws - k) (drop k ws))) ≡ 4 * (length ws - k)
 length-bytes_rest k ws = length-bytes _ ∙ ap (◌*◌ 4) (length-part_rest ws k)
 
--- ---- entries
+-- ---- unpacking
 
--- byte j of word k
-pub bytes-at : (ws : List ℕ) (k j : ℕ) → k < length ws → j < 4 → at (bytes_of ws) (4 * k + j) ≡ at (word_bytes (at ws k)) j
-unfolding at bytes_of word_bytes
-bytes-at [] k j h l = absurd (omega arith)
-bytes-at (v ∷ ws) zero j h l =
-    let e : 4 * 0 + j ≡ j = omega arith in
-    ap (λ (i : ℕ). get_or (bytes_of (v ∷ ws)) i 0) e ∙ get_or-append (word_bytes v) (bytes_of ws) 0 j l
-bytes-at (v ∷ ws) (suc k) j h l =
-    let e : 4 * suc k + j ≡ suc (suc (suc (suc (4 * k + j)))) = omega arith in
-    ap (λ (i : ℕ). get_or (bytes_of (v ∷ ws)) i 0) e ∙ bytes-at ws k j (omega arith) l
+-- std's bytes of a word are the word's
+pub le-bytes : (v : ℕ) → to_le_bytes w32 v ≡ word_bytes v
+unfolding word_bytes
+le-bytes v =
+    let third : v / 65536 ≡ v / 256 / 256 = omega arith in
+    let fourth : v / 16777216 ≡ v / 256 / 256 / 256 = omega arith in
+    cc
 
--- ---- unpacking: the bytes of word k, behind those of the words before it
+-- the bytes of one word more
+bytes_more : (ws : List ℕ) (k : ℕ) → k < length ws → bytes_of (take (k + 1) ws) ≡ bytes_of (take k ws) ++ word_bytes (get_or ws k 0)
+unfolding bytes_of word_bytes
+bytes_more ws k h = ap bytes_of (take_more ws k 0 h) ∙ bytes-append (take k ws) (get_or ws k 0 ∷ [])
 
-next_written : (f : ℕ → ℕ) (m k v : ℕ) (y o : List ℕ) → y ≡ over f m o → k ≡ m → v ≡ f k → k < length o → set y k v ≡ over f (k + 1) o
-next_written f m k v y o e q w h = over_more f k v y o (e ∙ ap (λ (i : ℕ). over f i o) (sym q)) w h
-
-pub word-written : (ws y o : List ℕ) (k i : ℕ) → y ≡ over (at (bytes_of ws)) (4 * k) o → i ≡ 4 * k → k < length ws → 4 * k + 4 ≤ length o
-    → set
-    (set
-    (set (set y i (at (word_bytes (at ws k)) 0)) (i + 1) (at (word_bytes (at ws k)) 1))
-    (i + 2) (at (word_bytes (at ws k)) 2))
-    (i + 3) (at (word_bytes (at ws k)) 3)
-    ≡ over (at (bytes_of ws)) (4 * (k + 1)) o
-word-written ws y o k i e q h l =
-    let byte : (j : ℕ) → j < 4 → at (word_bytes (at ws k)) j ≡ at (bytes_of ws) (i + j) =
-    (λ j u. sym (ap (λ (m : ℕ). at (bytes_of ws) (m + j)) q ∙ bytes-at ws k j h u)) in
-    let first = next_written f (4 * k) i _ y o e q (byte 0 (omega arith) ∙ ap (at (bytes_of ws)) (add-zero i)) (omega arith) in
-    let second = next_written f (i + 1) (i + 1) _ _ o first refl (byte 1 (omega arith)) (omega arith) in
-    let third = next_written f (i + 1 + 1) (i + 2) _ _ o second (omega arith) (byte 2 (omega arith)) (omega arith) in
-    let fourth = next_written f (i + 2 + 1) (i + 3) _ _ o third (omega arith) (byte 3 (omega arith)) (omega arith) in
-    fourth ∙ ap (λ (m : ℕ). over f m o) (omega arith)
-  where
-    f : ℕ → ℕ
-    f = at (bytes_of ws)
-
--- all of them: the front of the tape's bytes
-pub words-written : (ws y o : List ℕ) (k n : ℕ) → y ≡ over (at (bytes_of ws)) (4 * k) o → k ≡ n → n ≤ length ws
-    → y ≡ front (take (4 * n) (bytes_of ws)) o
-words-written ws y o k n e q h =
-    e
-    ∙ ap (λ (i : ℕ). over (at (bytes_of ws)) (4 * i) o) q
-    ∙ over_front (at (bytes_of ws)) (4 * n) o
-    ∙ ap (λ (l : List ℕ). front l o) (tab-take (bytes_of ws) (4 * n) (omega (arith, length-bytes ws)))
+-- the bytes of word k, put behind those of the words before it
+pub word_put : (ws y q o : List ℕ) (k : ℕ) → y ≡ front (bytes_of (take k ws)) o → k < length ws → 4 * k + 4 ≤ length o
+    → q ≡ to_le_bytes w32 (get_or ws k 0) → put_mid (4 * k) (4 * k + 4 - 4 * k) y q ≡ front (bytes_of (take (k + 1) ws)) o
+unfolding front
+word_put ws y q o k e h l p =
+    let before : List ℕ = bytes_of (take k ws) in
+    let w : List ℕ = word_bytes (get_or ws k 0) in
+    let n : length before ≡ 4 * k = length-bytes _ ∙ ap (◌*◌ 4) (length-take-le k ws (omega arith)) in
+    let r : drop (4 * k) y ≡ drop (4 * k) o = rw (e, n) (drop_at before (drop (4 * k) o) (4 * k) n) in
+    let t : take (4 * k) y ≡ before = rw (e, n) (take_at before (drop (4 * k) o) (4 * k) n) in
+    let s : length (before ++ w) ≡ 4 * k + 4 = length-append before w ∙ omega (arith, n, length-word (get_or ws k 0)) in
+    rw (p ∙ le-bytes (get_or ws k 0), t, r, bytes_more ws k h, append_assoc, s, drop-drop) (ap (λ (m : ℕ). before ++ (w ++ drop m o)) (omega arith))
 
 -- ---- how many words
 

@@ -17,13 +17,9 @@ pub fn unpack(need: usize, tape: &[u32], room: &mut [u8])
     requires { (Words.words_for need ≤ length tape.now) × (4 * Words.words_for need ≤ length room.old) }
     ensures { room.new ≡ front (take (4 * Words.words_for need) (bytes_of tape.now)) room.old }
 {
-    let words = words_for(need);
-    for k in 0..words {
-        let w = tape[k];
+    let words = &tape[..words_for(need)];
+    for (k, word) in words.iter().enumerate() {
         let at = 4 * k;
-        room[at] = (w % 256) as u8;
-        room[at + 1] = (w / 256 % 256) as u8;
-        room[at + 2] = (w / 256 / 256 % 256) as u8;
-        room[at + 3] = (w / 256 / 256 / 256 % 256) as u8;
+        room[at..at + 4].copy_from_slice(&word.to_le_bytes());
     }
 }

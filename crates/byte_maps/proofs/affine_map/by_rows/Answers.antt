@@ -43,7 +43,7 @@ gathered rows r i a e =
 
 pub loop-i-init : goal.loop-i-init
 unfolding linear_by
-loop-i-init c = (omega arith, refl)
+loop-i-init c = refl
 
 pub loop-i-preserved : goal.loop-i-preserved
 unfolding parity
@@ -51,17 +51,15 @@ loop-i-preserved c =
     let v = c.args in
     let at = c.loop-i in
     let rows = v.rows.now in
-    let m = bit_and v.a (get_or rows at.i 0) in (
-      omega arith,
-      ap (λ (n : ℕ). bit_xor (bit_xor at.r n) (rows_from (drop (at.i + 1) rows) (at.i + 1) v.a))
-          (placed (parity m) at.i (parity_lt m) (omega arith))
-          ∙ turn rows at.r at.i v.a (omega arith)
-          ∙ at.invariant.1,
-    )
+    let m = bit_and v.a (get_or rows at.i 0) in
+    ap (λ (n : ℕ). bit_xor (bit_xor at.r n) (rows_from (drop (at.i + 1) rows) (at.i + 1) v.a))
+    (placed (parity m) at.i (parity_lt m) (omega arith))
+    ∙ turn rows at.r at.i v.a (omega arith)
+    ∙ at.invariant
 
 pub returns : goal.returns
 unfolding affine_by
 returns c =
     let v = c.args in
     let at = c.loop-i in
-    ap (λ (n : ℕ). bit_xor n v.constant) (gathered v.rows.now at.r at.i v.a (omega arith) ∙ at.invariant.1)
+    ap (λ (n : ℕ). bit_xor n v.constant) (gathered v.rows.now at.r at.i v.a (omega arith) ∙ at.invariant)

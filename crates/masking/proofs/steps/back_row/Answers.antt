@@ -1,31 +1,25 @@
 -- `masking::steps::back_row` meets its contract. Assumes nothing.
-use mathlib.Core.Path.{◌≡◌, refl, ap, ◌∙◌}
-use native.Mathlib.Omega.{arith}
-use lib.Bits.{bit_xor}
-use lib.ListN.{length-set}
+use Rattle.std.proofs.Common.{◌≡◌, ap, ◌∙◌, arith}
+use Rattle.std.specs.Int.Bits.{bit_xor}
 use Rattle.xor.specs.Lists.{at}
 use Rattle.xor.proofs.WriteLaws.{over_none, over_more, over_front}
-use borrow.Author.Rules.{rules}
 use Rattle.masking.proofs.steps.back_row.Goals as goal
 
 pub loop-m-init : goal.loop-m-init
-loop-m-init c = (search rules, over_none _ _, over_none _ _, refl, refl)
+loop-m-init c = record { lower = over_none _ _; back = over_none _ _ }
 
 pub loop-m-preserved : goal.loop-m-preserved
 unfolding at
 loop-m-preserved c =
     let l = c.loop-m in
-    let v = c.args in (
-      omega arith,
-      over_more _ _ _ _ _ l.invariant.1 c.times-c.ensures (omega arith),
-      over_more _ _ _ _ _ l.invariant.2 (ap (bit_xor (at v.half.now l.m)) c.times-c.ensures) (omega arith),
-      simp length-set (omega arith),
-      simp length-set (omega arith),
-    )
+    let t = c.times-c.ensures in
+    record {
+      lower = over_more _ _ _ _ _ l.invariant.lower t (omega arith);
+      back = over_more _ _ _ _ _ l.invariant.back (ap (bit_xor (at c.args.half.now l.m)) t) (omega arith);
+    }
 
 pub returns : goal.returns
 returns c =
     let l = c.loop-m in
-    let v = c.args in
-    let e : l.m ≡ v.w = omega arith in
-    ((rw e at l.invariant.1) ∙ over_front _ _ _, (rw e at l.invariant.2) ∙ over_front _ _ _)
+    let e : l.m ≡ c.args.w = omega arith in
+    ((rw e at l.invariant.lower) ∙ over_front _ _ _, (rw e at l.invariant.back) ∙ over_front _ _ _)

@@ -1,32 +1,32 @@
 -- `masking::steps::half_row` meets its contract. Assumes nothing.
-use mathlib.Core.Path.{◌≡◌, refl, ap, ap₂, ◌∙◌}
-use native.Mathlib.Omega.{arith}
-use lib.Bits.{bit_xor}
-use lib.ListN.{length-set}
+use Rattle.std.proofs.Common.{◌≡◌, ◌<◌, refl, ap₂, ◌∙◌, arith}
+use Rattle.std.proofs.Math.Seq.{length-take-le}
+use Rattle.std.proofs.lemmas.List.{get_or-take}
+use Rattle.std.specs.Int.Bits.{bit_xor}
 use Rattle.xor.specs.Lists.{at}
 use Rattle.xor.proofs.WriteLaws.{over_none, over_more, over_front}
-use borrow.Author.Rules.{rules}
 use Rattle.masking.proofs.steps.half_row.Goals as goal
 
 pub loop-m-init : goal.loop-m-init
-loop-m-init c = (search rules, refl, over_none _ _, over_none _ _, refl, refl)
+loop-m-init c = record { counted = refl; upper = over_none _ _; half = over_none _ _ }
 
 pub loop-m-preserved : goal.loop-m-preserved
 unfolding at
 loop-m-preserved c =
     let l = c.loop-m in
-    let v = c.args in (
-      omega arith,
-      omega arith,
-      over_more _ _ _ _ _ l.invariant.2 c.times-c.ensures (omega arith),
-      over_more _ _ _ _ _ l.invariant.3 (ap₂ bit_xor (ap (at v.tape.now) l.invariant.1) c.times-c.ensures) (omega arith),
-      simp length-set (omega arith),
-      simp length-set (omega arith),
-    )
+    let v = c.args in
+    let t = c.times-c.ensures in
+    let h : l.m < v.w = omega (arith, length-take-le v.w v.tape.now c.requires.reads) in
+    let r = get_or-take v.w v.tape.now l.m 0 h in
+    record {
+      counted = omega arith;
+      upper = over_more _ _ _ _ _ l.invariant.upper t (omega arith);
+      half = over_more _ _ _ _ _ l.invariant.half (ap₂ bit_xor r t) (omega arith);
+    }
 
 pub returns : goal.returns
 returns c =
     let l = c.loop-m in
     let v = c.args in
-    let e : l.m ≡ v.w = omega arith in
-    (l.invariant.1 ∙ e, (rw e at l.invariant.2) ∙ over_front _ _ _, (rw e at l.invariant.3) ∙ over_front _ _ _)
+    let e : l.m ≡ v.w = omega (arith, length-take-le v.w v.tape.now c.requires.reads) in
+    (omega (arith, l.invariant.counted), (rw e at l.invariant.upper) ∙ over_front _ _ _, (rw e at l.invariant.half) ∙ over_front _ _ _)

@@ -12,13 +12,13 @@ use Rattle.refresh.proofs.refreshing.refresh_core.Goals as goal
 
 pub loop-i-init : goal.loop-i-init
 unfolding before_row
-loop-i-init c = (search rules, refl, search rules, refl, refl, rows_none _ _ _)
+loop-i-init c = record { drawn = refl; needed = search rules; rows = rows_none _ _ _ }
 
 pub refresh_row-drawn-requires : goal.refresh_row-drawn-requires
 refresh_row-drawn-requires c =
     let l = c.loop-i in
     let d = c.args.d in
-    let r = row_counts d l.i l.drawn c.loop-i-test.true l.invariant.1 in
+    let r = row_counts d l.i l.drawn c.loop-i-test.true l.invariant.drawn in
     let n = refresh_need-pairs d in
     let e = length-part_rest c.args.tape.now l.drawn in
     record {
@@ -26,15 +26,15 @@ refresh_row-drawn-requires c =
       few = omega arith;
       drawn = rw e (omega (arith, c.requires));
       backs = rw e (omega (arith, c.requires));
-      owns = omega (arith, c.requires.0, l.invariant.4);
-      summed = omega (arith, c.requires, l.invariant.3);
+      owns = omega (arith, c.requires.0);
+      summed = omega (arith, c.requires);
     }
 
 pub overflow_add-drawn : goal.overflow_add-drawn
 overflow_add-drawn c =
     let l = c.loop-i in
     let d = c.args.d in
-    let r = row_counts d l.i l.drawn c.loop-i-test.true l.invariant.1 in
+    let r = row_counts d l.i l.drawn c.loop-i-test.true l.invariant.drawn in
     omega (arith, c.refresh_row-drawn.ensures.0, c.requires.2, refresh_need-pairs d)
 
 pub loop-i-preserved : goal.loop-i-preserved
@@ -44,20 +44,18 @@ loop-i-preserved c =
     let ts = v.tape.now in
     let t = c.refresh_row-drawn.ensures in
     let h = c.loop-i-test.true in
-    let r = row_counts v.d l.i l.drawn h l.invariant.1 in
-    let f = part_rest ts l.drawn ∙ ap (λ (k : ℕ). drop k ts) l.invariant.1 in (
-      r.0,
-      ap (◌+◌ l.drawn) t.0 ∙ r.1,
-      omega (arith, r.2, refresh_need-pairs v.d),
-      c.refresh_row-drawn.auto.x ∙ l.invariant.3,
-      omega arith,
-      rows_next v.d l.i l.x _ _ v.x.now ts h c.requires.1 f l.invariant.5 t.2,
-    )
+    let r = row_counts v.d l.i l.drawn h l.invariant.drawn in
+    let f = part_rest ts l.drawn ∙ ap (λ (k : ℕ). drop k ts) l.invariant.drawn in
+    record {
+      drawn = ap (◌+◌ l.drawn) t.0 ∙ r.1;
+      needed = omega (arith, r.2, refresh_need-pairs v.d);
+      rows = rows_next v.d l.i l.x _ _ v.x.now ts h c.requires.1 f l.invariant.rows t.2;
+    }
 
 pub returns : goal.returns
 returns c =
     let l = c.loop-i in
     let d = c.args.d in
     let e : l.i ≡ d = omega arith in
-    let z : l.drawn ≡ before_row (suc d) d = rw e at l.invariant.1 in
-    (z ∙ sym (pair_count_last d) ∙ sym (refresh_need-pairs d), (rw e at l.invariant.5) ∙ rows_all d _ _)
+    let z : l.drawn ≡ before_row (suc d) d = rw e at l.invariant.drawn in
+    (z ∙ sym (pair_count_last d) ∙ sym (refresh_need-pairs d), (rw e at l.invariant.rows) ∙ rows_all d _ _)

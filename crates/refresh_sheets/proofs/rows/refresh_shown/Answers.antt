@@ -15,14 +15,14 @@ use Rattle.refresh_sheets.proofs.rows.refresh_shown.Goals as goal
 
 pub loop-i-init : goal.loop-i-init
 unfolding before_row
-loop-i-init c = (search rules, refl, search rules, refl, rows_none _ _ _, rows-sheet-none _ _ _ _, refl)
+loop-i-init c = record { drawn = refl; needed = search rules; rows = rows_none _ _ _; shown = rows-sheet-none _ _ _ _ }
 
 pub sheet_row-drawn-requires : goal.sheet_row-drawn-requires
 sheet_row-drawn-requires c =
     let l = c.loop-i in
     let v = c.args in
     let p = c.requires in
-    let r = row_counts v.d l.i l.drawn c.loop-i-test.true l.invariant.1 in
+    let r = row_counts v.d l.i l.drawn c.loop-i-test.true l.invariant.drawn in
     let n = refresh_need-pairs v.d in
     let e = length-part_rest v.tape.now l.drawn in
     let f = length-part_rest l.out (3 * l.drawn) in
@@ -30,15 +30,15 @@ sheet_row-drawn-requires c =
       some = omega arith;
       few = omega (arith, p.order);
       drawn = rw e (omega (arith, p.drawn));
-      behind = omega (arith, p.long, l.invariant.3);
-      room = rw f (omega (arith, p.room, l.invariant.6));
+      behind = omega (arith, p.long);
+      room = rw f (omega (arith, p.room));
     }
 
 pub overflow_add-drawn : goal.overflow_add-drawn
 overflow_add-drawn c =
     let l = c.loop-i in
     let d = c.args.d in
-    let r = row_counts d l.i l.drawn c.loop-i-test.true l.invariant.1 in
+    let r = row_counts d l.i l.drawn c.loop-i-test.true l.invariant.drawn in
     omega (arith, c.sheet_row-drawn.ensures.0, c.requires.drawn, refresh_need-pairs d)
 
 pub loop-i-preserved : goal.loop-i-preserved
@@ -51,17 +51,15 @@ loop-i-preserved c =
     let t = c.sheet_row-drawn.ensures in
     let h = c.loop-i-test.true in
     let n = refresh_need-pairs v.d in
-    let r = row_counts v.d l.i l.drawn h l.invariant.1 in
-    let f = part_rest ts l.drawn ∙ ap (λ (k : ℕ). drop k ts) l.invariant.1 in (
-      r.0,
-      ap (◌+◌ l.drawn) t.0 ∙ r.1,
-      omega (arith, r.2, n),
-      omega arith,
-      rows_next v.d l.i l.x _ _ xs ts h (omega (arith, p.long)) f l.invariant.4 t.1,
-      rows_written v.d l.i l.drawn l.x l.out _ v.out.now xs ts h l.invariant.1 (omega (arith, r, p.room, n))
-          l.invariant.4 l.invariant.5 t.2,
-      omega arith,
-    )
+    let r = row_counts v.d l.i l.drawn h l.invariant.drawn in
+    let f = part_rest ts l.drawn ∙ ap (λ (k : ℕ). drop k ts) l.invariant.drawn in
+    record {
+      drawn = ap (◌+◌ l.drawn) t.0 ∙ r.1;
+      needed = omega (arith, r.2, n);
+      rows = rows_next v.d l.i l.x _ _ xs ts h (omega (arith, p.long)) f l.invariant.rows t.1;
+      shown = rows_written v.d l.i l.drawn l.x l.out _ v.out.now xs ts h l.invariant.drawn (omega (arith, r, p.room, n))
+          l.invariant.rows l.invariant.shown t.2;
+    }
 
 pub returns : goal.returns
 returns c =
@@ -69,8 +67,8 @@ returns c =
     let v = c.args in
     let d = v.d in
     let e : l.i ≡ d = omega arith in
-    let z : l.drawn ≡ before_row (suc d) d = rw e at l.invariant.1 in (
+    let z : l.drawn ≡ before_row (suc d) d = rw e at l.invariant.drawn in (
       z ∙ sym (pair_count_last d) ∙ sym (refresh_need-pairs d),
-      (rw e at l.invariant.4) ∙ rows_all d _ _,
-      (rw e at l.invariant.5) ∙ ap (λ (o : List ℕ). front o v.out.now) (rows-sheet-all d _ _),
+      (rw e at l.invariant.rows) ∙ rows_all d _ _,
+      (rw e at l.invariant.shown) ∙ ap (λ (o : List ℕ). front o v.out.now) (rows-sheet-all d _ _),
     )

@@ -1,37 +1,24 @@
 -- `tape_words::words::unpack` meets its contract. Assumes nothing.
-use mathlib.Core.Path.{refl}
-use native.Mathlib.Omega.{arith}
-use lib.ListN.{length-set}
-use Rattle.xor.specs.Lists.{at}
-use Rattle.xor.proofs.WriteLaws.{over_none}
-use Rattle.tape_words.specs.Words.{word_bytes, words_for}
-use Rattle.tape_words.proofs.WordsLaws.{word-written, words-written}
+use Rattle.std.proofs.Common.{◌≡◌, ℕ, ◌*◌, List, take, refl, ap, ◌∙◌, take_all, arith}
+use Rattle.std.proofs.Math.Seq.{length-take-le}
+use Rattle.xor.specs.Writes.{front}
+use Rattle.tape_words.specs.Words.{bytes_of}
+use Rattle.tape_words.proofs.WordsLaws.{word_put, bytes_take}
 use Rattle.tape_words.proofs.words.unpack.Goals as goal
 
 pub loop-k-init : goal.loop-k-init
-loop-k-init c = (c.words_for-words.ensures, omega arith, over_none _ _, refl)
-
-pub bounds-room-at-in-loop-k : goal.bounds-room-at-in-loop-k
-bounds-room-at-in-loop-k c = simp length-set (omega arith)
-
-pub bounds-room-at-in-loop-k-2 : goal.bounds-room-at-in-loop-k-2
-bounds-room-at-in-loop-k-2 c = simp length-set (omega arith)
-
-pub bounds-room-at-in-loop-k-3 : goal.bounds-room-at-in-loop-k-3
-bounds-room-at-in-loop-k-3 c = simp length-set (omega arith)
+unfolding bytes_of front
+loop-k-init c = refl
 
 pub loop-k-preserved : goal.loop-k-preserved
-unfolding at word_bytes
 loop-k-preserved c =
-    let l = c.loop-k in (
-      l.invariant.0,
-      omega arith,
-      word-written _ _ _ _ _ l.invariant.2 refl (omega (arith, l.invariant.0)) (omega (arith, l.invariant.0)),
-      simp length-set (omega arith),
-    )
+    let n = length-take-le c.words_for.result c.args.tape.now (omega arith) in
+    word_put _ _ _ _ c.loop-k.k c.loop-k.invariant c.loop-k-test.true (omega arith) (c.copy_from_slice.ensures.after ∙ c.to_le_bytes.ensures)
 
 pub returns : goal.returns
 returns c =
-    let a = c.args in
-    let l = c.loop-k in
-    words-written a.tape.now _ a.room.now l.k (words_for a.need) l.invariant.2 (omega (arith, l.invariant.0)) (omega arith)
+    let ws : List ℕ = take c.words_for.result c.args.tape.now in
+    let all : take c.loop-k.k ws ≡ ws = take_all c.loop-k.k ws (omega arith) in
+    c.loop-k.invariant
+    ∙ ap (λ (vs : List ℕ). front vs c.args.room.now)
+    (ap bytes_of all ∙ bytes_take c.words_for.result c.args.tape.now ∙ ap (λ (n : ℕ). take (4 * n) (bytes_of c.args.tape.now)) c.words_for.ensures)
