@@ -6,31 +6,26 @@ use vector_lines::counts;
 use vector_lines::counts::Tally;
 
 // For how many of the 65,536 pairs of bytes the two differ.
-fn count_different(logs: &Logs, antilogs: &Antilogs) -> u64
+fn count_different(logs: &Logs, antilogs: &Antilogs) -> usize
     requires { Tables logs.now antilogs.now }
 {
-    let mut different: u64 = 0;
-    for k in 0usize..65536 {
-        let a = (k / 256) as u8;
-        let b = (k % 256) as u8;
-        if gf256::table_product::table_times(logs, antilogs, a, b) != gf256::times(a, b) {
-            different = std::num::wrapping_add_u64(different, 1);
-        }
-    }
-    different
+    let differs = |pair: &u16| {
+        let [a, b] = pair.to_be_bytes();
+        gf256::table_product::table_times(logs, antilogs, a, b) != gf256::times(a, b)
+    };
+    (0..=u16::MAX).filter(differs).count()
 }
 
 // The first comparisons of all.
 pub fn compare() -> Tally {
     let logs = gf256::logs();
     let antilogs = gf256::antilogs();
-    let different = count_different(&logs, &antilogs);
+    let different = count_different(&logs, &antilogs) as u64;
     text::print(b"products of all bytes, by logs and by shifts: ");
     counts::print(65536, different);
     Tally {
         compared: 65536,
-        different: different,
-        unshown: 0,
-        unread: 0,
+        different,
+        ..Tally::default()
     }
 }
