@@ -1,4 +1,8 @@
 // Answers of the library as counts and numbers: printed, and compared with the one that a line wants.
+ghost use Rattle.std.specs.Prelude.{◌≡◌};
+ghost use Rattle.vector_lines.specs.declared.answers.Failure.TheVariants.{Refused};
+ghost use Rattle.vector_lines.specs.Failure as Failed;
+
 use crate::lines::{Line, Word};
 use outcomes::{Answer, Refusal};
 
@@ -10,6 +14,8 @@ pub enum Failure {
 }
 
 impl From<Refusal> for Failure {
+    ghost from_gives = { λ r e. e ≡ Refused r };
+
     fn from(r: Refusal) -> Failure {
         Failure::Refused(r)
     }
@@ -17,7 +23,9 @@ impl From<Refusal> for Failure {
 
 impl Failure {
     // Document 01's number of the refusal; 0 is none of the document's.
-    pub fn number(self) -> usize {
+    pub fn number(self) -> usize
+        ensures { result ≡ Failed.number self }
+    {
         match self {
             Failure::Refused(r) => outcomes::asked::number(r) as usize,
             Failure::Unmade => 0,

@@ -1,5 +1,5 @@
 // The text of a line: words with one space between them, read as numbers, as bytes in hexadecimal, and as a tape.
-ghost use Rattle.std.specs.Prelude.{◌≡◌, ◌≤◌, length};
+ghost use Rattle.std.specs.Prelude.{◌≡◌, ◌*◌, ◌<◌, ◌≤◌, length};
 
 use text::hexadecimal;
 
@@ -73,27 +73,17 @@ impl<'a> Line<'a> {
     pub fn bytes<'b>(self, w: Word, room: &'b mut [u8]) -> &'b [u8]
         ensures { length result.now ≤ length room.old }
     {
-        let word = self.word(w);
-        let n = word.len() / 2;
-        if room.len() < n {
-            return &[];
-        }
-        let out = &mut room[..n];
-        hexadecimal::fill(&word[..n * 2], out);
+        let (digits, out) = paired(self.word(w), 2, room);
+        hexadecimal::fill(digits, out);
         out
     }
 
-    // The same of the words of a tape.
+    // The words of a tape, in the same way.
     pub fn tape<'b>(self, w: Word, room: &'b mut [u32]) -> &'b [u32]
         ensures { length result.now ≤ length room.old }
     {
-        let word = self.word(w);
-        let n = word.len() / 8;
-        if room.len() < n {
-            return &[];
-        }
-        let out = &mut room[..n];
-        hexadecimal::fill_words(&word[..n * 8], out);
+        let (digits, out) = paired(self.word(w), 8, room);
+        hexadecimal::fill_words(digits, out);
         out
     }
 
@@ -104,6 +94,19 @@ impl<'a> Line<'a> {
             text::print(b" ");
         }
     }
+}
+
+// The digits of a word, so many for each element, and the front of room for the elements; none of either where there is no room.
+fn paired<'a, 'b, T>(word: &'a [u8], each: usize, room: &'b mut [T]) -> (&'a [u8], &'b mut [T])
+    requires { 0 < each }
+    ensures each { length result.0.now ≡ length result.1.now * each }
+    ensures room { length result.1.now ≤ length room.old }
+{
+    let n = word.len() / each;
+    if room.len() < n {
+        return (&[], &mut []);
+    }
+    (&word[..n * each], &mut room[..n])
 }
 
 // Whether a word is a number in decimal.

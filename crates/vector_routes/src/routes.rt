@@ -1,7 +1,7 @@
 // The routes of a block in shares through the library: encryption by the single call; encryption by two calls, which prepare the key and start from
 // the prepared keys, and which by document 02, wish 1, give the same shares; decryption; and the round trip of wish 2 at one order, which
 // decrypts the shares of an encryption.
-ghost use Rattle.std.specs.Prelude.{◌≤◌, IfSome};
+ghost use Rattle.std.specs.Prelude.{◌≡◌, ◌*◌, ◌<◌, ◌≤◌, ◌⊎◌, IfSome, MatchOption, length, suc};
 
 use vector_lines::answers;
 use vector_lines::answers::{Came, Failure};
@@ -9,7 +9,7 @@ use vector_lines::forms::Kind;
 
 // How long a string of that size is in shares, where there is room for them.
 pub fn in_shares(order: usize, size: usize) -> Option<usize>
-    ensures { IfSome result (λ n. n ≤ 2160) }
+    ensures { MatchOption result ((8 < order) ⊎ (240 < size)) (λ n. (n ≡ suc order * size) × (n ≤ 2160)) }
 {
     if 8 < order || 240 < size {
         return None;
@@ -18,11 +18,17 @@ pub fn in_shares(order: usize, size: usize) -> Option<usize>
 }
 
 // The front of room where a string of that size lies in shares; an empty one where there is no room for them.
-pub fn shares_in(room: &mut [u8], order: usize, size: usize) -> &mut [u8] {
+pub fn shares_in(room: &mut [u8], order: usize, size: usize) -> &mut [u8]
+    ensures room { length result.now ≤ length room.old }
+    ensures whole { order ≤ 8 → size ≤ 240 → suc order * size ≤ length room.old → length result.now ≡ suc order * size }
+{
     front(room, in_shares(order, size))
 }
 
-fn front(room: &mut [u8], n: Option<usize>) -> &mut [u8] {
+fn front(room: &mut [u8], n: Option<usize>) -> &mut [u8]
+    ensures room { length result.now ≤ length room.old }
+    ensures whole { IfSome n (λ m. m ≤ length room.old → length result.now ≡ m) }
+{
     match n {
         Some(n) if n <= room.len() => &mut room[..n],
         _ => &mut [],
