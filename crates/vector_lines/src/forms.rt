@@ -7,6 +7,7 @@
 //   WANTED the bytes there.
 // A KIND, a NAME that is a route, and taken or refused are told by their first letter. A line whose NAME is `-` is shown only if it differs.
 use crate::lines;
+use crate::lines::{Line, Word};
 
 #[derive(Clone, Copy)]
 pub enum Kind {
@@ -17,52 +18,40 @@ pub enum Kind {
     Keys,
     Lengths,
     Read,
-    Unknown,
 }
 
-pub fn named(letter: u8) -> Kind {
-    match letter {
-        b'e' => Kind::Encrypt,
-        b'p' => Kind::Prepared,
-        b'd' => Kind::Decrypt,
-        b't' => Kind::Trip,
-        b'k' => Kind::Keys,
-        b'l' => Kind::Lengths,
-        b'r' => Kind::Read,
-        _ => Kind::Unknown,
+impl Kind {
+    pub fn named(letter: u8) -> Option<Kind> {
+        match letter {
+            b'e' => Some(Kind::Encrypt),
+            b'p' => Some(Kind::Prepared),
+            b'd' => Some(Kind::Decrypt),
+            b't' => Some(Kind::Trip),
+            b'k' => Some(Kind::Keys),
+            b'l' => Some(Kind::Lengths),
+            b'r' => Some(Kind::Read),
+            _ => None,
+        }
     }
-}
 
-// Whether a word is what stands as word k of a line of that kind. Numbers are ORDER and what is behind it up to the last one, and NUMBER.
-fn fits(kind: Kind, word: &[u8], k: usize) -> bool {
-    let last = match kind {
-        Kind::Unknown => return false,
-        Kind::Read => 2usize,
-        Kind::Lengths => 5,
-        _ => 3,
-    };
-    match k {
-        0 | 1 | 7 => true,
-        8 => lines::is_number(word),
-        _ => {
-            if k <= last {
-                return lines::is_number(word);
-            }
-            if k == 3 {
-                return lines::is_tape(word);
-            }
-            lines::is_bytes(word)
+    // Whether a text may stand as that word of a line of this kind.
+    fn fits(self, word: Word, text: &[u8]) -> bool {
+        match (word, self) {
+            (Word::Kind | Word::Name | Word::Outcome, _) => true,
+            (Word::Order | Word::Number, _) => lines::is_number(text),
+            (Word::Tape, Kind::Read) => lines::is_tape(text),
+            (Word::Tape, _) | (Word::Key | Word::Block, Kind::Lengths) => lines::is_number(text),
+            _ => lines::is_bytes(text),
         }
     }
 }
 
-// Whether a line of that kind can be read: it has its nine words.
-pub fn is_whole(kind: Kind, line: &[u8]) -> bool {
-    let mut good = lines::start(line, 9) == line.len();
-    for k in 0..9usize {
-        if !fits(kind, lines::word(line, k), k) {
-            good = false;
-        }
+// The kind of a line that can be read: one that has its nine words.
+pub fn kind_of(line: Line) -> Option<Kind> {
+    let kind = line.letter(Word::Kind).and_then(Kind::named)?;
+    let fits = lines::WORDS.iter().all(|w| kind.fits(*w, line.word(*w)));
+    if fits && line.ends() {
+        return Some(kind);
     }
-    good
+    None
 }

@@ -1,5 +1,5 @@
 // The text of a line: words with one space between them, read as numbers, as bytes in hexadecimal, and as a tape.
-ghost use Rattle.std.specs.Prelude.{◌≡◌, ◌≤◌, length};
+ghost use Rattle.std.specs.Prelude.{◌≡◌, ◌*◌, ◌<◌, ◌≤◌, length};
 
 use text::hexadecimal;
 
@@ -10,107 +10,120 @@ pub fn buffer() -> [u8; 196608]
     [0; 196608]
 }
 
-// Where the stretch of text from there on ends: before the first mark, or at the end of the text.
-pub fn end(text: &[u8], from: usize, mark: u8) -> usize
-    requires { from ≤ length text.now }
-    ensures { (from ≤ result) × (result ≤ length text.now) }
-{
-    let mut at = from;
-    while at < text.len() && text[at] != mark {
-        at += 1;
-    }
-    at
+// The words of a line, by what they are; forms.rt says what stands in each.
+#[derive(Clone, Copy)]
+pub enum Word {
+    Kind,
+    Name,
+    Order,
+    Tape,
+    Key,
+    Block,
+    Wanted,
+    Outcome,
+    Number,
 }
 
-// Where word k begins, from 0 on; a line with fewer words has it at its end.
-pub fn start(line: &[u8], k: usize) -> usize
-    ensures { result ≤ length line.now }
-{
-    let mut at: usize = 0;
-    for i in 0..k {
-        at = end(line, at, b' ');
-        if at < line.len() {
-            at += 1;
+// All of them, in their order on a line.
+pub const WORDS: [Word; 9] = [
+    Word::Kind,
+    Word::Name,
+    Word::Order,
+    Word::Tape,
+    Word::Key,
+    Word::Block,
+    Word::Wanted,
+    Word::Outcome,
+    Word::Number,
+];
+
+#[derive(Clone, Copy)]
+pub struct Line<'a> {
+    pub text: &'a [u8],
+}
+
+impl<'a> Line<'a> {
+    // A word; where the line has fewer, an empty one.
+    pub fn word(self, w: Word) -> &'a [u8] {
+        let mut words = self.text.split(|c| *c == b' ');
+        words.nth(w as usize).unwrap_or(&[])
+    }
+
+    // Whether nothing stands behind the last word, but for a space.
+    pub fn ends(self) -> bool {
+        let mut words = self.text.splitn(10, |c| *c == b' ');
+        words.nth(9).unwrap_or(&[]).is_empty()
+    }
+
+    // The first letter of a word.
+    pub fn letter(self, w: Word) -> Option<u8> {
+        self.word(w).first().copied()
+    }
+
+    // A word in decimal, modulo 2^64.
+    pub fn number(self, w: Word) -> usize {
+        let mut n: usize = 0;
+        for c in self.word(w) {
+            n = n.wrapping_mul(10).wrapping_add((*c % 16) as usize);
+        }
+        n
+    }
+
+    // The bytes of a word, at the front of room; none where there is no room for them.
+    pub fn bytes<'b>(self, w: Word, room: &'b mut [u8]) -> &'b [u8]
+        ensures { length result.now ≤ length room.old }
+    {
+        let (digits, out) = paired(self.word(w), 2, room);
+        hexadecimal::fill(digits, out);
+        out
+    }
+
+    // The words of a tape, in the same way.
+    pub fn tape<'b>(self, w: Word, room: &'b mut [u32]) -> &'b [u32]
+        ensures { length result.now ≤ length room.old }
+    {
+        let (digits, out) = paired(self.word(w), 8, room);
+        hexadecimal::fill_words(digits, out);
+        out
+    }
+
+    // What the line asks for: the words in front of what it wants.
+    pub fn print_asked(self) {
+        for w in &WORDS[..6] {
+            text::print(self.word(*w));
+            text::print(b" ");
         }
     }
-    at
 }
 
-pub fn word(line: &[u8], k: usize) -> &[u8] {
-    let a = start(line, k);
-    let e = end(line, a, b' ');
-    &line[a..e]
-}
-
-// The first letter of word k; 0 where there is none.
-pub fn letter(line: &[u8], k: usize) -> u8 {
-    let word = word(line, k);
-    if word.len() == 0 {
-        return 0;
+// The digits of a word, so many for each element, and the front of room for the elements; none of either where there is no room.
+fn paired<'a, 'b, T>(word: &'a [u8], each: usize, room: &'b mut [T]) -> (&'a [u8], &'b mut [T])
+    requires { 0 < each }
+    ensures each { length result.0.now ≡ length result.1.now * each }
+    ensures room { length result.1.now ≤ length room.old }
+{
+    let n = word.len() / each;
+    if room.len() < n {
+        return (&[], &mut []);
     }
-    word[0]
+    (&word[..n * each], &mut room[..n])
 }
 
 // Whether a word is a number in decimal.
 pub fn is_number(word: &[u8]) -> bool {
-    let mut good = 0 < word.len();
-    for i in 0..word.len() {
-        if word[i] < b'0' || b'9' < word[i] {
-            good = false;
-        }
-    }
-    good
-}
-
-// Word k in decimal, modulo 2^64.
-pub fn number(line: &[u8], k: usize) -> usize {
-    let word = word(line, k);
-    let mut n: usize = 0;
-    for i in 0..word.len() {
-        let tens = std::num::wrapping_add_usize(n << 3, n << 1);
-        n = std::num::wrapping_add_usize(tens, (word[i] % 16) as usize);
-    }
-    n
+    !word.is_empty() && word.iter().all(|c| c.is_ascii_digit())
 }
 
 // Whether a word is bytes in hexadecimal, at most 15 round keys; `-` is none.
 pub fn is_bytes(word: &[u8]) -> bool {
-    let n = word.len();
-    if n == 1 {
-        return word[0] == b'-';
+    match word {
+        [] => false,
+        b"-" => true,
+        _ => word.len() <= 480 && word.len() % 2 == 0 && hexadecimal::are_digits(word),
     }
-    0 < n && n <= 480 && n % 2 == 0 && hexadecimal::are_digits(word)
 }
 
 // Whether a word is a tape: words of 32 bits, eight digits each.
 pub fn is_tape(word: &[u8]) -> bool {
     word.len() % 8 == 0 && is_bytes(word)
-}
-
-// The bytes of word k, at the front of out. Answers with how many they are.
-pub fn bytes(line: &[u8], k: usize, out: &mut [u8]) -> usize
-    ensures { result ≤ length out.new }
-{
-    let word = word(line, k);
-    let n = word.len() / 2;
-    if out.len() < n {
-        return 0;
-    }
-    let digits = n * 2;
-    hexadecimal::fill(&word[0..digits], &mut out[0..n]);
-    n
-}
-
-// The same of the words of a tape.
-pub fn tape(line: &[u8], k: usize, out: &mut [u32]) -> usize
-    ensures { result ≤ length out.new }
-{
-    let word = word(line, k);
-    let n = word.len() / 8;
-    if out.len() < n {
-        return 0;
-    }
-    let digits = n * 8;
-    hexadecimal::fill_words(&word[0..digits], &mut out[0..n]);
-    n
 }

@@ -1,103 +1,111 @@
 // The routes of a block in shares through the library: encryption by the single call; encryption by two calls, which prepare the key and start from
 // the prepared keys, and which by document 02, wish 1, give the same shares; decryption; and the round trip of wish 2 at one order, which
 // decrypts the shares of an encryption.
-ghost use Rattle.std.specs.Prelude.{◌≤◌};
+ghost use Rattle.std.specs.Prelude.{◌≡◌, ◌*◌, ◌<◌, ◌≤◌, ◌⊎◌, IfSome, MatchOption, length, suc};
 
 use vector_lines::answers;
-use vector_lines::answers::Came;
+use vector_lines::answers::{Came, Failure};
 use vector_lines::forms::Kind;
 
-// How long a string of that size is in shares; 0 where there is no room for them.
-pub fn in_shares(order: usize, size: usize) -> usize
-    ensures { result ≤ 2160 }
+// How long a string of that size is in shares, where there is room for them.
+pub fn in_shares(order: usize, size: usize) -> Option<usize>
+    ensures { MatchOption result ((8 < order) ⊎ (240 < size)) (λ n. (n ≡ suc order * size) × (n ≤ 2160)) }
 {
     if 8 < order || 240 < size {
-        return 0;
+        return None;
     }
-    (order + 1) * size
+    Some((order + 1) * size)
 }
 
-// Two calls as the single call: its answer, if the output is its shares and the two took as much together; else refusal 0.
-fn as_single(
-    order: usize,
-    key: &[u8],
-    input: &[u8],
-    tape: &[u32],
-    output: &[u8],
-    taken: usize,
-) -> Came {
-    let mut room = io::buffer();
-    let n = in_shares(order, 16);
-    let whole = &mut room[0..n];
-    let single = answers::of(aes::encrypt(order, key, input, tape, whole));
-    if text::same(output, whole) && single.number == taken {
-        return single;
-    }
-    Came {
-        served: false,
-        number: 0,
+// The front of room where a string of that size lies in shares; an empty one where there is no room for them.
+pub fn shares_in(room: &mut [u8], order: usize, size: usize) -> &mut [u8]
+    ensures room { length result.now ≤ length room.old }
+    ensures whole { order ≤ 8 → size ≤ 240 → suc order * size ≤ length room.old → length result.now ≡ suc order * size }
+{
+    front(room, in_shares(order, size))
+}
+
+fn front(room: &mut [u8], n: Option<usize>) -> &mut [u8]
+    ensures room { length result.now ≤ length room.old }
+    ensures whole { IfSome n (λ m. m ≤ length room.old → length result.now ≡ m) }
+{
+    match n {
+        Some(n) if n <= room.len() => &mut room[..n],
+        _ => &mut [],
     }
 }
 
 // How long the round keys are of a key of that length in shares: 16·(Nk + 7) bytes for each 4·Nk of a share. No key in shares has more than 288.
-fn expanded(order: usize, length: usize) -> usize
-    ensures { result ≤ 4096 }
-{
+fn expanded(order: usize, length: usize) -> Option<usize> {
     if 288 < length {
-        return 0;
+        return None;
     }
-    4 * length + in_shares(order, 112)
+    Some(4 * length + in_shares(order, 112)?)
 }
 
-// Encryption from prepared keys, on the tape that the preparation left.
-fn prepared(order: usize, key: &[u8], input: &[u8], tape: &[u32], output: &mut [u8]) -> Came {
-    let mut room = io::buffer();
-    let n = expanded(order, key.len());
-    let keys = &mut room[0..n];
-    let first = answers::of(aes::prepare(order, key, tape, keys));
-    let rest = answers::rest(tape, first);
-    let second = answers::of(aes::encrypt_prepared(order, keys, input, rest, output));
-    if !second.served {
-        return second;
-    }
-    let taken = std::num::wrapping_add_usize(first.number, second.number);
-    as_single(order, key, input, tape, output, taken)
+// A block and its key in shares, and the tape of the calls on it.
+#[derive(Clone, Copy)]
+pub struct Block<'a> {
+    pub order: usize,
+    pub key: &'a [u8],
+    pub input: &'a [u8],
+    pub tape: &'a [u32],
 }
 
-// An encryption, and the decryption of its shares on the tape that it left.
-fn trip(order: usize, key: &[u8], input: &[u8], tape: &[u32], output: &mut [u8]) -> Came {
-    let mut room = io::buffer();
-    let n = in_shares(order, 16);
-    let ciphers = &mut room[0..n];
-    let first = answers::of(aes::encrypt(order, key, input, tape, ciphers));
-    let rest = answers::rest(tape, first);
-    let second = answers::of(aes::decrypt(order, key, ciphers, rest, output));
-    if !second.served {
-        return second;
+impl Block<'_> {
+    fn encrypt(self, output: &mut [u8]) -> Came {
+        answers::of(aes::encrypt(self.order, self.key, self.input, self.tape, output))
     }
-    Came {
-        served: true,
-        number: std::num::wrapping_add_usize(first.number, second.number),
-    }
-}
 
-// A key and an input in shares by the route of that kind.
-pub fn run(
-    kind: Kind,
-    order: usize,
-    key: &[u8],
-    input: &[u8],
-    tape: &[u32],
-    output: &mut [u8],
-) -> Came {
-    match kind {
-        Kind::Encrypt => answers::of(aes::encrypt(order, key, input, tape, output)),
-        Kind::Prepared => prepared(order, key, input, tape, output),
-        Kind::Decrypt => answers::of(aes::decrypt(order, key, input, tape, output)),
-        Kind::Trip => trip(order, key, input, tape, output),
-        _ => Came {
-            served: false,
-            number: 0,
-        },
+    fn decrypt(self, output: &mut [u8]) -> Came {
+        answers::of(aes::decrypt(self.order, self.key, self.input, self.tape, output))
+    }
+
+    // Two calls as the single call: its answer, if the output is its shares and the two took as much together.
+    fn as_single(self, output: &[u8], taken: usize) -> Came {
+        let mut room = io::buffer();
+        let whole = shares_in(&mut room, self.order, 16);
+        let single = self.encrypt(whole);
+        if single.is_ok_and(|n| n == taken) && output == whole {
+            return single;
+        }
+        Err(Failure::Unmade)
+    }
+
+    // Encryption from prepared keys, on the tape that the preparation left. Where both calls are refused, the second one's answer stands.
+    fn prepared(self, output: &mut [u8]) -> Came {
+        let mut room = io::buffer();
+        let keys = front(&mut room, expanded(self.order, self.key.len()));
+        let first = answers::of(aes::prepare(self.order, self.key, self.tape, keys));
+        let rest = answers::rest(self.tape, first);
+        let second = answers::of(aes::encrypt_prepared(
+            self.order, keys, self.input, rest, output,
+        ))?;
+        self.as_single(output, first?.wrapping_add(second))
+    }
+
+    // An encryption, and the decryption of its shares on the tape that it left. Where both calls are refused, the second one's answer stands.
+    fn trip(self, output: &mut [u8]) -> Came {
+        let mut room = io::buffer();
+        let ciphers = shares_in(&mut room, self.order, 16);
+        let first = self.encrypt(ciphers);
+        let back = Block {
+            input: ciphers,
+            tape: answers::rest(self.tape, first),
+            ..self
+        };
+        let second = back.decrypt(output)?;
+        Ok(first?.wrapping_add(second))
+    }
+
+    // The route of that kind.
+    pub fn run(self, kind: Kind, output: &mut [u8]) -> Came {
+        match kind {
+            Kind::Encrypt => self.encrypt(output),
+            Kind::Prepared => self.prepared(output),
+            Kind::Decrypt => self.decrypt(output),
+            Kind::Trip => self.trip(output),
+            Kind::Keys | Kind::Lengths | Kind::Read => Err(Failure::Unmade),
+        }
     }
 }

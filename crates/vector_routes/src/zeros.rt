@@ -1,50 +1,31 @@
 // Calls on zeros, by the lengths of their buffers: which are served, and which are refused under what number. Document 01 decides, and document 02,
 // wish 2, has decryption answer like encryption.
-use crate::routes;
-use vector_lines::answers::Came;
-use vector_lines::{forms, lines, tapes};
+use crate::routes::Block;
+use vector_lines::answers::{Came, Failure};
+use vector_lines::forms::Kind;
+use vector_lines::lines::{Line, Word};
+use vector_lines::tapes;
 
-// As many of the zeros as word k of a line says, at most all.
-fn front<'a>(line: &[u8], k: usize, zeros: &'a [u8]) -> &'a [u8] {
-    let n = lines::number(line, k);
-    if zeros.len() < n {
-        return zeros;
-    }
-    &zeros[0..n]
-}
-
-// The same of zero words, for a tape.
-fn front_words<'a>(line: &[u8], k: usize, zeros: &'a [u32]) -> &'a [u32] {
-    let n = lines::number(line, k);
-    if zeros.len() < n {
-        return zeros;
-    }
-    &zeros[0..n]
+// That many of the zeros, at most all.
+fn front<T>(zeros: &[T], n: usize) -> &[T] {
+    zeros.get(..n).unwrap_or(zeros)
 }
 
 // A call on zeros, in buffers of the lengths that a line has.
-pub fn call(line: &[u8]) -> Came {
-    let mut output = io::buffer();
+pub fn call(line: Line) -> Came {
+    let mut room = io::buffer();
     let zeros = io::large_buffer();
-    let z = &zeros[..];
     let words = tapes::made(0);
-    let tape = front_words(line, 3, &words);
-    let key = front(line, 4, z);
-    let input = front(line, 5, z);
-    let n = input.len();
-    if 4096 < n {
-        return Came {
-            served: false,
-            number: 0,
-        };
+    let block = Block {
+        order: line.number(Word::Order),
+        key: front(&zeros, line.number(Word::Key)),
+        input: front(&zeros, line.number(Word::Block)),
+        tape: front(&words, line.number(Word::Tape)),
+    };
+    let route = line.letter(Word::Name).and_then(Kind::named);
+    let output = room.get_mut(..block.input.len());
+    match (route, output) {
+        (Some(route), Some(output)) => block.run(route, output),
+        _ => Err(Failure::Unmade),
     }
-    let kind = forms::named(lines::letter(line, 1));
-    routes::run(
-        kind,
-        lines::number(line, 2),
-        key,
-        input,
-        tape,
-        &mut output[0..n],
-    )
 }

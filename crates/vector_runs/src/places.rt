@@ -1,39 +1,27 @@
 // Listed places of a product, which document 01 numbers: the bytes there, or the refusal.
-use vector_lines::answers::Came;
-use vector_lines::{answers, lines, tapes};
-
-fn place(high: u8, low: u8) -> u16 {
-    (high as u16) * 256 + low as u16
-}
+use vector_lines::answers::{Came, Failure};
+use vector_lines::lines::{Line, Word};
+use vector_lines::{answers, tapes};
 
 // Listed places of the product of two bytes, whose shares a line has, on its tape.
-fn read_listed(line: &[u8], list: &[u16], output: &mut [u8]) -> Came {
-    let mut tape = tapes::buffer();
-    let n = lines::tape(line, 3, &mut tape);
-    let mut both = io::buffer();
-    let end = lines::bytes(line, 4, &mut both);
-    let middle = end / 2;
-    let b = &both[..];
-    answers::of(readings::read_places(
-        lines::number(line, 2),
-        &b[0..middle],
-        &b[middle..end],
-        &tape[0..n],
-        list,
-        output,
-    ))
+fn read_listed(line: Line, list: &[u16], output: &mut [u8]) -> Came {
+    let mut words = tapes::buffer();
+    let tape = line.tape(Word::Tape, &mut words);
+    let mut room = io::buffer();
+    let both = line.bytes(Word::Key, &mut room);
+    let (first, second) = both.split_at(both.len() / 2);
+    let order = line.number(Word::Order);
+    answers::of(readings::read_places(order, first, second, tape, list, output))
 }
 
-// The places that a line lists, at most three.
-pub fn read(line: &[u8], output: &mut [u8]) -> Came {
-    let mut b = io::buffer();
-    let n = lines::bytes(line, 5, &mut b) / 2;
-    if 3 < n {
-        return Came {
-            served: false,
-            number: 0,
-        };
+// The places that a line lists, at most three: two bytes each, the high one first.
+pub fn read(line: Line, output: &mut [u8]) -> Came {
+    let mut room = io::buffer();
+    let (listed, _) = line.bytes(Word::Block, &mut room).as_chunks::<2>();
+    let mut places = [0; 3];
+    for (place, bytes) in places.iter_mut().zip(listed) {
+        *place = u16::from_be_bytes(*bytes);
     }
-    let list = [place(b[0], b[1]), place(b[2], b[3]), place(b[4], b[5])];
-    read_listed(line, &list[0..n], output)
+    let list = places.get(..listed.len()).ok_or(Failure::Unmade)?;
+    read_listed(line, list, output)
 }

@@ -3,39 +3,35 @@ use text::hexadecimal;
 use vector_lines::answers::Came;
 use vector_lines::counts::Tally;
 use vector_lines::forms::Kind;
-use vector_lines::{answers, counts, forms, lines, tapes};
+use vector_lines::lines::{Line, Word};
+use vector_lines::{answers, forms};
 use vector_routes::zeros;
 use vector_runs::{places, runs};
 
 // An output; of round keys the last one.
 fn print_output(output: &[u8]) {
-    let n = output.len();
-    if n == 0 {
+    if output.is_empty() {
         text::print(b"-");
-    } else if n <= 16 {
-        hexadecimal::print(output);
-    } else {
-        let a = n - 16;
-        hexadecimal::print(&output[a..]);
     }
+    let last = output.len().saturating_sub(16);
+    hexadecimal::print(&output[last..]);
 }
 
 // Shows a line with what came in the place of what it wants. One without a name is shown only if it differs.
-fn shown(line: &[u8], wanted: &[u8], output: &[u8], c: Came, t: Tally) -> Tally {
-    let equal = text::same(output, wanted) && answers::is_wanted(line, c);
-    if equal && lines::letter(line, 1) == b'-' {
-        return counts::unshown(t);
+fn show(line: Line, wanted: &[u8], output: &[u8], c: Came, tally: &mut Tally) {
+    let equal = output == wanted && answers::is_wanted(line, c);
+    if equal && line.letter(Word::Name) == Some(b'-') {
+        return tally.pass_over();
     }
-    let n = lines::start(line, 6);
-    text::print(&line[0..n]);
+    line.print_asked();
     print_output(output);
     answers::print(c);
-    counts::judged(t, equal)
+    tally.judge(equal);
 }
 
 // What a line asks for. The output is all ff before, so that a refused call is seen to leave it.
-fn come(kind: Kind, line: &[u8], output: &mut [u8]) -> Came {
-    tapes::fill(1, output);
+fn come(kind: Kind, line: Line, output: &mut [u8]) -> Came {
+    output.fill(0xff);
     match kind {
         Kind::Lengths => zeros::call(line),
         Kind::Read => places::read(line, output),
@@ -44,19 +40,18 @@ fn come(kind: Kind, line: &[u8], output: &mut [u8]) -> Came {
 }
 
 // The output is as long as what is wanted.
-fn compare(kind: Kind, line: &[u8], t: Tally) -> Tally {
-    let mut wanted = io::buffer();
+fn compare(kind: Kind, line: Line, tally: &mut Tally) {
+    let mut words = io::buffer();
     let mut room = io::buffer();
-    let n = lines::bytes(line, 6, &mut wanted);
-    let output = &mut room[0..n];
+    let wanted = line.bytes(Word::Wanted, &mut words);
+    let output = &mut room[..wanted.len()];
     let c = come(kind, line, output);
-    shown(line, &wanted[0..n], output, c, t)
+    show(line, wanted, output, c, tally);
 }
 
-pub fn compare_line(line: &[u8], t: Tally) -> Tally {
-    let kind = forms::named(lines::letter(line, 0));
-    if forms::is_whole(kind, line) {
-        return compare(kind, line, t);
+pub fn compare_line(line: Line, tally: &mut Tally) {
+    match forms::kind_of(line) {
+        Some(kind) => compare(kind, line, tally),
+        None => tally.leave_unread(line.text),
     }
-    counts::unread(line, t)
 }

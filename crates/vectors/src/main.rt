@@ -7,29 +7,26 @@ mod comparisons;
 mod products;
 
 use vector_lines::counts::Tally;
+use vector_lines::lines::Line;
 use vector_lines::{counts, lines};
 
 // All lines in turn.
-fn compare(input: &[u8], start: Tally) -> Tally {
-    let mut t = start;
-    let mut at = 0;
-    while at < input.len() {
-        let end = lines::end(input, at, b'\n');
-        t = comparisons::compare_line(&input[at..end], t);
-        at = end + 1;
+fn compare(input: &[u8], tally: &mut Tally) {
+    for ended in input.split_inclusive(|c| *c == b'\n') {
+        let text = ended.strip_suffix(b"\n").unwrap_or(ended);
+        comparisons::compare_line(Line { text }, tally);
     }
-    t
 }
 
 fn main() {
     let mut input = lines::buffer();
     let n = io::read_full(0, &mut input);
-    let multiplied = products::compare();
-    let all = compare(&input[..n], multiplied);
+    let mut tally = products::compare();
+    compare(&input[..n], &mut tally);
     text::print(b"equal and not shown: ");
-    text::print_count(all.unshown);
+    text::print_count(tally.unshown);
     text::print(b"\nunread: ");
-    text::print_count(all.unread);
+    text::print_count(tally.unread);
     text::print(b"\n");
-    counts::print(all.compared, all.different);
+    counts::print(tally.compared, tally.different);
 }

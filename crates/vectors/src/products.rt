@@ -5,29 +5,23 @@ use vector_lines::counts;
 use vector_lines::counts::Tally;
 
 // For how many of the 65,536 pairs of bytes the two differ.
-fn count_different(tables: &Tables) -> u64
-{
-    let mut different: u64 = 0;
-    for k in 0usize..65536 {
-        let a = (k / 256) as u8;
-        let b = (k % 256) as u8;
-        if tables.times(a, b) != gf256::times(a, b) {
-            different = std::num::wrapping_add_u64(different, 1);
-        }
-    }
-    different
+fn count_different(tables: &Tables) -> usize {
+    let differs = |pair: &u16| {
+        let [a, b] = pair.to_be_bytes();
+        tables.times(a, b) != gf256::times(a, b)
+    };
+    (0..=u16::MAX).filter(differs).count()
 }
 
 // The first comparisons of all.
 pub fn compare() -> Tally {
     let tables = Tables::new();
-    let different = count_different(&tables);
+    let different = count_different(&tables) as u64;
     text::print(b"products of all bytes, by logs and by shifts: ");
     counts::print(65536, different);
     Tally {
         compared: 65536,
-        different: different,
-        unshown: 0,
-        unread: 0,
+        different,
+        ..Tally::default()
     }
 }
