@@ -4,6 +4,7 @@ ghost use Rattle.text.specs.Decimal as Decimal;
 
 // A number with one more digit behind it, where the character is one. A number above 99999 stays as it is: it is above every bound that is asked of
 // a number here.
+#[tactic(auto, unfolding(crate::specs::Decimal::is_decimal, crate::specs::Decimal::appended))]
 fn appended(value: usize, c: u8) -> Option<usize>
     ensures { result ≡ cond (Decimal.is_decimal c) (Some (Decimal.appended value c)) None }
 {

@@ -6,6 +6,7 @@ ghost use Rattle.text.specs.Hexadecimal as Hexadecimal;
 use crate::packing;
 
 // The value of a digit, where the character is one.
+#[tactic(auto, unfolding(crate::specs::Hexadecimal::digit))]
 fn digit(c: u8) -> Option<u8>
     ensures { MatchOption result (Hexadecimal.digit c ≡ 16) (λ d. (d ≡ Hexadecimal.digit c) × (d < 16)) }
 {
@@ -30,6 +31,7 @@ fn byte_of(high: u8, low: u8) -> u8
 }
 
 // The byte that two digits are, from there on.
+#[tactic(auto, unfolding(crate::specs::Hexadecimal::byte_at, xor::specs::Lists::at))]
 fn byte_at(text: &[u8], i: usize) -> u8
     requires { i + 2 ≤ length text.now }
     ensures { result ≡ Hexadecimal.byte_at text.now i }
@@ -48,6 +50,7 @@ pub fn fill(text: &[u8], out: &mut [u8])
 }
 
 // The word whose value eight digits are, from there on.
+#[tactic(auto, unfolding(crate::specs::Hexadecimal::word_at))]
 fn word_at(text: &[u8], i: usize) -> u32
     requires { i + 8 ≤ length text.now }
     ensures { result ≡ Hexadecimal.word_at text.now i }

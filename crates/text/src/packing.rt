@@ -3,6 +3,7 @@ ghost use Rattle.std.specs.Prelude.{◌≡◌, ◌*◌, length};
 ghost use Rattle.text.specs.Packing as Packing;
 
 // Four bytes as one word.
+#[tactic(auto, unfolding(crate::specs::Packing::word))]
 pub fn word(a: u8, b: u8, c: u8, d: u8) -> u32
     ensures { result ≡ Packing.word a b c d }
 {
