@@ -1,4 +1,6 @@
 // Answers of the library, as lines on standard output, with document 01's numbers and words.
+ghost use Rattle.std.specs.Prelude.{◌≤◌};
+
 use crate::hexadecimal;
 use outcomes::{Answer, Count, Refusal};
 use std::fmt;
@@ -17,6 +19,15 @@ pub enum Table {
 pub struct Cause {
     pub refusal: Refusal,
     pub table: Table,
+}
+
+impl From<Refusal> for Cause {
+    fn from(refusal: Refusal) -> Self {
+        Cause {
+            refusal,
+            table: Table::Document01,
+        }
+    }
 }
 
 impl fmt::Display for Cause {
@@ -52,10 +63,21 @@ pub fn print_taken(count: Count) {
     crate::print(b"\n");
 }
 
-// What a call put out and counted.
-pub fn print(output: &[u8], count: Count) {
+// A call on an output of n bytes: prints what it put out and counted, or hands on the cause of its refusal.
+pub fn print_call<F: FnOnce(&mut [u8]) -> Answer>(
+    n: usize,
+    table: Table,
+    call: F,
+) -> Result<(), Cause>
+    requires room { n ≤ 4096 }
+    requires callable { F.IsAlwaysCallable call }
+{
+    let mut room = io::buffer();
+    let output = &mut room[..n];
+    let count = counted(call(output), table)?;
     crate::print(b"output ");
     hexadecimal::print(output);
     crate::print(b"\n");
     print_taken(count);
+    Ok(())
 }
