@@ -6,6 +6,7 @@ ghost use Rattle.command_calls.specs.Called.{called};
 use command_line::commands::Command;
 use outcomes::{Answer, Refusal};
 use text::answers;
+use text::answers::{Cause, Table};
 
 // How long a string of that size is in n shares; 0 above 32 bytes, where no routine takes it.
 fn in_shares(n: usize, size: usize) -> usize
@@ -65,18 +66,19 @@ fn call(
     }
 }
 
-// Calls the routine and prints its answer.
-fn run_in(c: Command, order: usize, first: &[u8], second: &[u8], tape: &[u32], output: &mut [u8]) {
-    let a = call(c, order, first, second, tape, output);
-    match c {
-        Command::EncryptPrepared => answers::print_on_prepared(a, output),
-        _ => answers::print(a, output),
-    }
-}
-
-// The same, with an output of the length that the routine wants.
-pub fn run(c: Command, order: usize, first: &[u8], second: &[u8], tape: &[u32]) {
-    let mut output = io::buffer();
-    let n = room(c, order, first.len());
-    run_in(c, order, first, second, tape, &mut output[0..n]);
+// Calls the routine on an output of the length that it wants.
+pub fn run(
+    c: Command,
+    order: usize,
+    first: &[u8],
+    second: &[u8],
+    tape: &[u32],
+) -> Result<(), Cause> {
+    let table = match c {
+        Command::EncryptPrepared => Table::PreparedKeys,
+        _ => Table::Document01,
+    };
+    answers::print_call(room(c, order, first.len()), table, |output| {
+        call(c, order, first, second, tape, output)
+    })
 }
