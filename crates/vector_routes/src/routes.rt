@@ -30,7 +30,7 @@ fn as_single(
     let n = in_shares(order, 16);
     let whole = &mut room[0..n];
     let single = answers::of(aes::encrypt(order, key, input, tape, whole));
-    if text::same(output, whole) && single.number == taken {
+    if output == &*whole && single.number == taken {
         return single;
     }
     Came {

@@ -22,7 +22,7 @@ fn print_output(output: &[u8]) {
 
 // Shows a line with what came in the place of what it wants. One without a name is shown only if it differs.
 fn shown(line: &[u8], wanted: &[u8], output: &[u8], c: Came, t: Tally) -> Tally {
-    let equal = text::same(output, wanted) && answers::is_wanted(line, c);
+    let equal = output == wanted && answers::is_wanted(line, c);
     if equal && lines::letter(line, 1) == b'-' {
         return counts::unshown(t);
     }
