@@ -10,7 +10,7 @@ use Rattle.aes.specs.Calls.{encrypt_outcome, decrypt_outcome, prepare_outcome, e
 use Rattle.command_line.specs.declared.commands.Command.{Command}
 use Rattle.command_line.specs.declared.commands.Command.TheVariants.{Encrypt, Decrypt, Prepare, EncryptPrepared, Split, Join, Refresh, Product}
 use Rattle.command_line.specs.declared.commands.Command.TheVariants.{Sbox, Read, Sheet, Places, ReadCube, CubeSheet, CubePlaces}
-use Rattle.command_line.specs.declared.commands.Command.TheVariants.{Tape, Preview, Help, Unknown}
+use Rattle.command_line.specs.declared.commands.Command.TheVariants.{Tape, Preview, Help}
 
 -- a command that calls no routine of this form never gets there; it stands as a refused order
 abbrev pub called : Command → (order : ℕ) (first second tape output : List ℕ) → Outcome
@@ -32,4 +32,3 @@ called CubePlaces d x y t o = refused 1 o
 called Tape d x y t o = refused 1 o
 called Preview d x y t o = refused 1 o
 called Help d x y t o = refused 1 o
-called Unknown d x y t o = refused 1 o

@@ -4,8 +4,10 @@ ghost use Rattle.outcomes.specs.Outcome.{outcome};
 ghost use Rattle.command_calls.specs.Called.{called};
 
 use command_line::commands::Command;
+use lengths::sizes;
 use outcomes::{Answer, Refusal};
 use text::answers;
+use text::answers::{Cause, Table};
 
 // How long a string of that size is in n shares; 0 above 32 bytes, where no routine takes it.
 fn in_shares(n: usize, size: usize) -> usize
@@ -29,12 +31,12 @@ fn room(c: Command, order: usize, length: usize) -> usize
     let n = order + 1;
     match c {
         Command::Encrypt | Command::Decrypt | Command::EncryptPrepared => in_shares(n, 16),
-        Command::Prepare => lengths::sizes::prepared_length(
-            lengths::sizes::key_words(order, length),
-            order,
-        ),
+        Command::Prepare => match sizes::key_words(order, length) {
+            Some(key) => sizes::prepared_length(key.nk, order),
+            None => 0,
+        },
         Command::Split => in_shares(n, length),
-        Command::Join => outcomes::asked::share_length(n, length),
+        Command::Join => outcomes::asked::share_length(n, length).unwrap_or(0),
         _ => n,
     }
 }
@@ -65,18 +67,19 @@ fn call(
     }
 }
 
-// Calls the routine and prints its answer.
-fn run_in(c: Command, order: usize, first: &[u8], second: &[u8], tape: &[u32], output: &mut [u8]) {
-    let a = call(c, order, first, second, tape, output);
-    match c {
-        Command::EncryptPrepared => answers::print_on_prepared(a, output),
-        _ => answers::print(a, output),
-    }
-}
-
-// The same, with an output of the length that the routine wants.
-pub fn run(c: Command, order: usize, first: &[u8], second: &[u8], tape: &[u32]) {
-    let mut output = io::buffer();
-    let n = room(c, order, first.len());
-    run_in(c, order, first, second, tape, &mut output[0..n]);
+// Calls the routine on an output of the length that it wants.
+pub fn run(
+    c: Command,
+    order: usize,
+    first: &[u8],
+    second: &[u8],
+    tape: &[u32],
+) -> Result<(), Cause> {
+    let table = match c {
+        Command::EncryptPrepared => Table::PreparedKeys,
+        _ => Table::Document01,
+    };
+    answers::print_call(room(c, order, first.len()), table, |output| {
+        call(c, order, first, second, tape, output)
+    })
 }

@@ -1,10 +1,10 @@
 // The command `cube-places`: the places of the cube by number and name.
-
+use command_line::stops::Stop;
+use command_lists::orders;
 use std::env::Env;
 
-pub fn run<R: Env>(rt: &R) {
-    let order = command_lists::places::served_order(rt, 2);
-    if order.good {
-        crate::names::print(order.value, &[]);
-    }
+pub fn run<R: Env>(rt: &R) -> Result<(), Stop> {
+    let order = orders::served_order(rt, 2)?;
+    crate::names::print(order, &[]);
+    Ok(())
 }

@@ -1,20 +1,15 @@
 // The command `cube-sheet`: all places of the cube with their bytes.
-use outcomes::Answer;
+use command_line::stops::Stop;
 use text::answers;
+use text::answers::Table;
 
-// The sheet goes into a buffer of that size.
-fn run_in(order: usize, shares: &[u8], tape: &[u32], sheet: &mut [u8]) {
-    match cubes::cube_sheet(order, shares, tape, sheet) {
-        Ok(count) => {
-            crate::names::print(order, sheet);
-            answers::print_taken(count)
-        }
-        Err(r) => answers::print_refused(r),
-    }
-}
-
-pub fn run(order: usize, shares: &[u8], tape: &[u32]) {
-    let mut sheet = io::buffer();
-    let n = cubes::cube::cube_size(order);
-    run_in(order, shares, tape, &mut sheet[0..n]);
+// Kept: the command `sheet` has the same steps, with a size, a call and a listing of its own. One function that takes all three is no shorter than they.
+pub fn run(order: usize, shares: &[u8], tape: &[u32]) -> Result<(), Stop> {
+    let mut room = io::buffer();
+    let sheet = &mut room[..cubes::cube::cube_size(order)];
+    let answer = cubes::cube_sheet(order, shares, tape, sheet);
+    let count = answers::counted(answer, Table::Document01)?;
+    crate::names::print(order, sheet);
+    answers::print_taken(count);
+    Ok(())
 }

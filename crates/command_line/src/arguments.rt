@@ -1,28 +1,12 @@
-// Arguments of the command line, read as numbers and as bytes. One that cannot be read gets a line on standard error.
-ghost use Rattle.std.specs.Prelude.{◌≡◌, false, ◌≤◌, length};
+// Arguments of the command line, read as numbers and as bytes. What is read of one stands at the front of a room that the caller lends, and is handed
+// back as that part.
+ghost use Rattle.std.specs.Prelude.{◌≡◌, ◌≤◌, length, IfOk};
 ghost use Rattle.text.specs.Hexadecimal as Hexadecimal;
 ghost use Rattle.command_line.specs.Filled.{Whole, Filled};
 
-use crate::faults;
+use crate::faults::Fault;
 use std::env::{Env, FillError};
-use text::decimal::Number;
 use text::{decimal, hexadecimal};
-
-// How many entries stand at the front of a buffer, where they could be read.
-#[derive(Clone, Copy)]
-pub struct Got {
-    pub good: bool,
-    pub count: usize,
-}
-
-pub fn nothing() -> Got
-    ensures { (result.good ≡ false) × (result.count ≡ 0) }
-{
-    Got {
-        good: false,
-        count: 0,
-    }
-}
 
 // Room for the digits of 65,536 bytes.
 pub fn wide_buffer() -> [u8; 131072]
@@ -31,13 +15,13 @@ pub fn wide_buffer() -> [u8; 131072]
     [0; 131072]
 }
 
-// Argument i at the front of text. One that is missing, or longer than text, is read as empty.
-pub fn word<R: Env>(rt: &R, i: usize, text: &mut [u8]) -> usize
-    ensures { result ≤ length text.new }
+// Argument i. One that is missing, or longer than the room, is read as empty.
+pub fn word<'a, R: Env>(rt: &R, i: usize, room: &'a mut [u8]) -> &'a [u8]
+    ensures { length result.now ≤ length room.old }
 {
-    match rt.arg(i, text) {
-        Ok(n) => n,
-        Err(_) => 0,
+    match rt.arg(i, room) {
+        Ok(n) => &room[..n],
+        Err(_) => &[],
     }
 }
 
@@ -53,75 +37,64 @@ pub fn count<R: Env>(rt: &R) -> usize {
 }
 
 // Argument i as a number.
-pub fn number<R: Env>(rt: &R, i: usize, name: &[u8]) -> Number {
-    let mut text = io::buffer();
-    let n = word(rt, i, &mut text);
-    let read = decimal::read(&text[..n]);
-    if !read.good {
-        faults::print(name, b" is no decimal number of at most 4096 digits");
-    }
-    read
+pub fn number<R: Env>(rt: &R, i: usize, name: &'static str) -> Result<usize, Fault> {
+    let mut room = io::buffer();
+    decimal::read(word(rt, i, &mut room)).ok_or(Fault::NotDecimal(name))
 }
 
-// Argument i as hexadecimal digits, at the front of text.
-pub fn digits<R: Env>(rt: &R, i: usize, name: &[u8], text: &mut [u8]) -> Got
-    ensures { result.count ≤ length text.new }
+// Argument i as hexadecimal digits.
+pub fn digits<'a, R: Env>(
+    rt: &R,
+    i: usize,
+    name: &'static str,
+    room: &'a mut [u8],
+) -> Result<&'a [u8], Fault>
+    ensures { IfOk result (λ text. length text.now ≤ length room.old) }
 {
-    let Ok(n) = rt.arg(i, text) else {
-        faults::print_long(name, text.len(), 1);
-        return nothing();
+    let Ok(n) = rt.arg(i, room) else {
+        return Err(Fault::Long(name, room.len(), 1));
     };
-    if !hexadecimal::are_digits(&text[0..n]) {
-        faults::print(name, b" has a character that is no hexadecimal digit");
-        return nothing();
+    let text = &room[..n];
+    if !hexadecimal::are_digits(text) {
+        return Err(Fault::NotHexadecimal(name));
     }
-    Got {
-        good: true,
-        count: n,
-    }
+    Ok(text)
 }
 
-// How many entries something of that size has, so many characters each. If one is not whole, or there is no room for them, a line says so.
-pub fn counted(size: usize, each: usize, room: usize, name: &[u8]) -> Got
+// How many entries something of that size has, so many characters each: it is a whole number, for which there is room.
+pub fn counted(size: usize, each: usize, room: usize, name: &'static str) -> Result<usize, Fault>
     requires { 1 ≤ each }
-    ensures { Whole size each room result.good result.count }
+    ensures { IfOk result (λ count. Whole size each room count) }
 {
     if size % each != 0 {
-        faults::print_ragged(name, each);
-        return nothing();
+        return Err(Fault::Ragged(name, each));
     }
     if room < size / each {
-        faults::print_long(name, room, each);
-        return nothing();
+        return Err(Fault::Long(name, room, each));
     }
-    Got {
-        good: true,
-        count: size / each,
-    }
+    Ok(size / each)
 }
 
 // The bytes that text is in hexadecimal, at the front of out.
-fn decoded(text: &[u8], name: &[u8], out: &mut [u8]) -> Got
-    ensures { Filled (Hexadecimal.bytes text.now) (length text.now) 2 out.old out.new result.good
-        result.count }
+fn decoded(text: &[u8], name: &'static str, out: &mut [u8]) -> Result<usize, Fault>
+    ensures { Filled (Hexadecimal.bytes text.now) (length text.now) 2 out.old out.new result }
 {
-    let got = counted(text.len(), 2, out.len(), name);
-    if got.good {
-        let n = got.count;
-        hexadecimal::fill(text, &mut out[0..n]);
-    }
-    got
+    let n = counted(text.len(), 2, out.len(), name)?;
+    hexadecimal::fill(text, &mut out[..n]);
+    Ok(n)
 }
 
-// Argument i as bytes, at the front of out.
-pub fn bytes<R: Env>(rt: &R, i: usize, name: &[u8], out: &mut [u8]) -> Got
-    ensures { result.count ≤ length out.new }
+// Argument i as bytes.
+pub fn bytes<'a, R: Env>(
+    rt: &R,
+    i: usize,
+    name: &'static str,
+    room: &'a mut [u8],
+) -> Result<&'a [u8], Fault>
+    ensures { IfOk result (λ bytes. length bytes.now ≤ length room.old) }
 {
-    let mut text = wide_buffer();
-    let got = digits(rt, i, name, &mut text);
-    if !got.good {
-        return nothing();
-    }
-    let n = got.count;
-    decoded(&text[0..n], name, out)
+    let mut wide = wide_buffer();
+    let text = digits(rt, i, name, &mut wide)?;
+    let n = decoded(text, name, room)?;
+    Ok(&room[..n])
 }

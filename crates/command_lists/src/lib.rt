@@ -2,6 +2,7 @@
 #![tactic(auto)]
 
 pub mod layout;
+pub mod orders;
 pub mod place_list;
 pub mod places;
 pub mod reading;

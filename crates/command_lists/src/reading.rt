@@ -1,41 +1,25 @@
 // The command `read`: the bytes at the places of a product that the arguments behind the tape name.
 use crate::place_list;
+use command_line::stops::Stop;
 use std::env::Env;
 use text::answers;
+use text::answers::Table;
 
 // The first argument that names a place.
 const FIRST: usize = 6;
 
-// The list is filled, and read with an output as long.
-fn run_in<R: Env>(
+// The list is read with an output as long.
+pub fn run<R: Env>(
     rt: &R,
     order: usize,
     left: &[u8],
     right: &[u8],
     tape: &[u32],
-    list: &mut [u16],
-    output: &mut [u8],
-) {
-    if place_list::fill(rt, FIRST, list) {
-        let a = readings::read_places(order, left, right, tape, list, output);
-        answers::print(a, output);
-    }
-}
-
-pub fn run<R: Env>(rt: &R, order: usize, left: &[u8], right: &[u8], tape: &[u32]) {
-    let mut list = place_list::buffer();
-    let mut output = io::buffer();
-    let got = place_list::count(rt, FIRST);
-    if got.good {
-        let n = got.count;
-        run_in(
-            rt,
-            order,
-            left,
-            right,
-            tape,
-            &mut list[0..n],
-            &mut output[0..n],
-        );
-    }
+) -> Result<(), Stop> {
+    let mut room = place_list::buffer();
+    let list = place_list::read(rt, FIRST, &mut room)?;
+    answers::print_call(list.len(), Table::Document01, |output| {
+        readings::read_places(order, left, right, tape, list, output)
+    })?;
+    Ok(())
 }

@@ -4,11 +4,14 @@ ghost use Rattle.std.specs.Prelude.{◌≡◌, []};
 ghost use Rattle.outcomes.specs.Outcome.{outcome};
 ghost use Rattle.command_previews.specs.Previewed.{previewed};
 
-use command_line::commands::Command;
-use command_line::{arguments, commands, faults};
+use command_line::arguments;
+use command_line::commands::{Command, has_words};
+use command_line::faults::Fault;
+use command_line::stops::Stop;
 use outcomes::Answer;
 use std::env::Env;
 use text::answers;
+use text::answers::Table;
 
 // The calls that can be asked about.
 #[derive(Clone, Copy)]
@@ -17,6 +20,34 @@ pub enum Route {
     Decrypt,
     Prepare,
     EncryptPrepared,
+}
+
+impl Route {
+    fn named(word: &[u8]) -> Option<Route> {
+        match Command::named(word)? {
+            Command::Encrypt => Some(Route::Encrypt),
+            Command::Decrypt => Some(Route::Decrypt),
+            Command::Prepare => Some(Route::Prepare),
+            Command::EncryptPrepared => Some(Route::EncryptPrepared),
+            _ => None,
+        }
+    }
+
+    // A preparation has no input.
+    fn has_input(self) -> bool {
+        match self {
+            Route::Prepare => false,
+            _ => true,
+        }
+    }
+
+    // The name of the length of the key's shares, or of the prepared keys; and the words of a refusal.
+    fn key(self) -> (&'static str, Table) {
+        match self {
+            Route::EncryptPrepared => ("PREPAREDLEN", Table::PreparedKeys),
+            _ => ("KEYLEN", Table::Document01),
+        }
+    }
 }
 
 fn foretold(
@@ -39,75 +70,26 @@ fn foretold(
     }
 }
 
-// TAPELEN is argument i, OUTPUTLEN the one behind it.
-fn with_input<R: Env>(rt: &R, route: Route, order: usize, key: usize, input: usize, i: usize) {
-    let tape = arguments::number(rt, i, b"TAPELEN");
-    if !tape.good {
-        return;
-    }
-    let output = arguments::number(rt, std::num::wrapping_add_usize(i, 1), b"OUTPUTLEN");
-    if !output.good {
-        return;
-    }
-    let a = foretold(route, order, key, input, tape.value, output.value);
-    match route {
-        Route::EncryptPrepared => answers::print_foretold_on_prepared(a),
-        _ => answers::print_foretold(a),
-    }
+// The lengths behind the key's begin with INPUTLEN, where the call has an input.
+fn with_lengths<R: Env>(rt: &R, route: Route) -> Result<(), Stop> {
+    let (name, table) = route.key();
+    let order = arguments::number(rt, 3, "ORDER")?;
+    let key = arguments::number(rt, 4, name)?;
+    let (input, behind) = if route.has_input() {
+        (arguments::number(rt, 5, "INPUTLEN")?, 6)
+    } else {
+        (0, 5)
+    };
+    let tape = arguments::number(rt, behind, "TAPELEN")?;
+    let output = arguments::number(rt, behind + 1, "OUTPUTLEN")?;
+    let count = answers::counted(foretold(route, order, key, input, tape, output), table)?;
+    answers::print_taken(count);
+    Ok(())
 }
 
-// What follows the key's length. A preparation has no input.
-fn with_key<R: Env>(rt: &R, route: Route, order: usize, key: usize) {
-    match route {
-        Route::Prepare => with_input(rt, route, order, key, 0, 5),
-        _ => {
-            let input = arguments::number(rt, 5, b"INPUTLEN");
-            if input.good {
-                with_input(rt, route, order, key, input.value, 6);
-            }
-        }
-    }
-}
-
-// The length of the key's shares, or of the prepared keys, has that name.
-fn with_name<R: Env>(rt: &R, route: Route, name: &[u8]) {
-    let order = arguments::number(rt, 3, b"ORDER");
-    if !order.good {
-        return;
-    }
-    let key = arguments::number(rt, 4, name);
-    if key.good {
-        with_key(rt, route, order.value, key.value);
-    }
-}
-
-// The line must have so many words.
-fn with_lengths<R: Env>(rt: &R, route: Route, count: usize, wanted: usize) {
-    if !commands::has_words(count, wanted) {
-        return;
-    }
-    match route {
-        Route::EncryptPrepared => with_name(rt, route, b"PREPAREDLEN"),
-        _ => with_name(rt, route, b"KEYLEN"),
-    }
-}
-
-// A line of that many words asks about a call.
-fn run_on<R: Env>(rt: &R, c: Command, count: usize) {
-    match c {
-        Command::Encrypt => with_lengths(rt, Route::Encrypt, count, 8),
-        Command::Decrypt => with_lengths(rt, Route::Decrypt, count, 8),
-        Command::Prepare => with_lengths(rt, Route::Prepare, count, 7),
-        Command::EncryptPrepared => with_lengths(rt, Route::EncryptPrepared, count, 8),
-        _ => faults::print(
-            b"ROUTE",
-            b" is none of encrypt, decrypt, prepare, encrypt-prepared",
-        ),
-    }
-}
-
-pub fn run<R: Env>(rt: &R) {
-    let mut word = io::buffer();
-    let n = arguments::word(rt, 2, &mut word);
-    run_on(rt, commands::named(&word[..n]), arguments::count(rt));
+pub fn run<R: Env>(rt: &R) -> Result<(), Stop> {
+    let mut room = io::buffer();
+    let route = Route::named(arguments::word(rt, 2, &mut room)).ok_or(Fault::UnknownRoute)?;
+    has_words(arguments::count(rt), if route.has_input() { 8 } else { 7 })?;
+    with_lengths(rt, route)
 }

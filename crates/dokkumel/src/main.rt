@@ -9,35 +9,43 @@
 mod calls;
 
 use command_line::commands::Command;
-use command_line::{arguments, commands, faults, help};
+use command_line::faults::Fault;
+use command_line::stops::Stop;
+use command_line::{arguments, help};
 use command_lists::layout;
 use command_places::places;
 use command_previews::previews;
 use std::env::Env;
 
-fn run<R: Env + Input>(rt: &R, c: Command) {
+fn run_command<R: Env + Input>(rt: &R, c: Command) -> Result<(), Stop> {
     match c {
         Command::Places => places::run(rt),
         Command::CubePlaces => command_cubes::places::run(rt),
         Command::Tape => layout::run(rt),
         Command::Preview => previews::run(rt),
-        Command::Help => help::print(),
-        Command::Unknown => faults::print(b"", b"unknown command, see dokkumel help"),
+        Command::Help => {
+            help::print();
+            Ok(())
+        }
         _ => calls::run(rt, c),
     }
 }
 
-// A first argument that the buffer does not hold is read as empty, and names no command.
-fn main(rt: HostRuntime) {
-    let mut word = io::buffer();
-    let count = arguments::count(&rt);
+// A first argument that the room does not hold is read as empty, and names no command.
+fn run<R: Env + Input>(rt: &R) -> Result<(), Stop> {
+    let count = arguments::count(rt);
     if count < 2 {
         help::print();
-        return;
+        return Ok(());
     }
-    let n = arguments::word(&rt, 1, &mut word);
-    let c = commands::named(&word[..n]);
-    if commands::is_whole(c, count) {
-        run(&rt, c);
+    let mut room = io::buffer();
+    let c = Command::named(arguments::word(rt, 1, &mut room)).ok_or(Fault::UnknownCommand)?;
+    c.is_whole(count)?;
+    run_command(rt, c)
+}
+
+fn main(rt: HostRuntime) {
+    if let Err(stop) = run(&rt) {
+        stop.print();
     }
 }

@@ -1,3 +1,4 @@
+pub mod DecimalLaws
 pub mod FillLaws
 pub mod LengthLaws
 pub mod PackingLaws

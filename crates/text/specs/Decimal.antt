@@ -1,5 +1,5 @@
 -- Numbers in decimal. Assumes nothing: these are definitions. No document decides them.
-use Rattle.std.specs.Prelude.{Bool, false, cond, List, [], ◌∷◌, ℕ, ◌+◌, ◌*◌, ◌-◌, ltb}
+use Rattle.std.specs.Prelude.{Bool, false, cond, List, [], ◌∷◌, ℕ, ◌+◌, ◌*◌, ◌-◌, ltb, length, Option, Some, None}
 
 -- whether a character is a decimal digit
 unfoldable pub is_decimal : (c : ℕ) → Bool
@@ -18,3 +18,7 @@ number_from v (c ∷ cs) = number_from (appended v c) cs
 unfoldable pub decimal_from : Bool → List ℕ → Bool
 decimal_from b [] = b
 decimal_from b (c ∷ cs) = decimal_from (cond b (is_decimal c) false) cs
+
+-- the number that a text is, where it is all digits; an empty one is none
+unfoldable pub read : List ℕ → Option ℕ
+read t = cond (decimal_from (ltb 0 (length t)) t) (Some (number_from 0 t)) None

@@ -8,4 +8,4 @@ pub mod hexadecimal;
 pub mod packing;
 pub mod words;
 
-pub use words::{print, print_count, print_number, print_with, same};
+pub use words::{Stream, print, print_count, print_number, print_with};

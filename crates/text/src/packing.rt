@@ -3,6 +3,7 @@ ghost use Rattle.std.specs.Prelude.{◌≡◌, ◌*◌, length};
 ghost use Rattle.text.specs.Packing as Packing;
 
 // Four bytes as one word.
+#[tactic(auto, unfolding(crate::specs::Packing::word))]
 pub fn word(a: u8, b: u8, c: u8, d: u8) -> u32
     ensures { result ≡ Packing.word a b c d }
 {
@@ -14,8 +15,8 @@ pub fn pack(bytes: &[u8], out: &mut [u32])
     requires { length bytes.now ≡ length out.old * 4 }
     ensures { out.new ≡ Packing.packed bytes.now (length out.old) }
 {
-    for k in 0..out.len() {
+    for (k, w) in out.iter_mut().enumerate() {
         let i = k * 4;
-        out[k] = word(bytes[i], bytes[i + 1], bytes[i + 2], bytes[i + 3]);
+        *w = word(bytes[i], bytes[i + 1], bytes[i + 2], bytes[i + 3]);
     }
 }

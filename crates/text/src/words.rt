@@ -1,4 +1,23 @@
-// Text and numbers on standard output, and texts compared. What a write answers is dropped: there is nobody else to tell.
+// Text and numbers on standard output and standard error. What a write answers is dropped: there is nobody else to tell.
+use std::fmt;
+
+// Where a program writes, for `write!` and all that has a `Display`.
+#[derive(Clone, Copy)]
+pub enum Stream {
+    Output,
+    Error,
+}
+
+impl fmt::Write for Stream {
+    fn write_str(&mut self, s: &str) -> fmt::Result {
+        let number = match self {
+            Stream::Output => 1,
+            Stream::Error => 2,
+        };
+        io::write_all(number, s.as_bytes());
+        Ok(())
+    }
+}
 
 pub fn print(words: &[u8]) {
     io::write_all(1, words);
@@ -16,18 +35,4 @@ pub fn print_number(n: usize) {
 pub fn print_with(words: &[u8], n: usize) {
     print(words);
     print_number(n);
-}
-
-// Whether two texts are the same.
-pub fn same(a: &[u8], b: &[u8]) -> bool {
-    if a.len() != b.len() {
-        return false;
-    }
-    let mut equal = true;
-    for k in 0..a.len() {
-        if a[k] != b[k] {
-            equal = false;
-        }
-    }
-    equal
 }
