@@ -1,8 +1,8 @@
 // One thing done to every share of a string in shares: the linear steps and the key expansion hand over what it is. Document 01, "The steps over
 // shares", decides the layout.
 //
-// A closure gets each part `&mut s[a..e]`. Std's `chunks_exact_mut` would cut the same parts, but once they are given back, a proof knows the
-// string's length alone.
+// Kept: a loop by the share's number. A closure gets each part `&mut s[a..e]`; std's `chunks_exact_mut` would cut the same parts, but once they are
+// given back, a proof knows the string's length alone.
 ghost use Rattle.std.specs.Prelude.{◌≡◌, ℕ, List, suc, ◌*◌, ◌≤◌, length};
 ghost use Rattle.shares.specs.Strings.{parts, laid};
 ghost use Rattle.cipher.specs.States.{each_by};

@@ -9,33 +9,20 @@ use outcomes::{Answer, Refusal};
 use text::answers;
 use text::answers::{Cause, Table};
 
-// How long a string of that size is in n shares; 0 above 32 bytes, where no routine takes it.
-fn in_shares(n: usize, size: usize) -> usize
-    requires { n ≤ 9 }
-    ensures { result ≤ 288 }
-{
-    if 32 < size {
-        return 0;
-    }
-    n * size
-}
-
 // The output's length that a routine wants, on a first input of that length. Where the order is not served or the input does not fit, the call
 // is refused for that before its output is looked at, and any length will do.
 fn room(c: Command, order: usize, length: usize) -> usize
     ensures { result ≤ 2160 }
 {
-    if 8 < order {
-        return 0;
-    }
-    let n = order + 1;
+    let d = order.min(8);
+    let n = d + 1;
     match c {
-        Command::Encrypt | Command::Decrypt | Command::EncryptPrepared => in_shares(n, 16),
-        Command::Prepare => match sizes::key_words(order, length) {
-            Some(key) => sizes::prepared_length(key.nk, order),
+        Command::Encrypt | Command::Decrypt | Command::EncryptPrepared => n * 16,
+        Command::Prepare => match sizes::key_words(d, length) {
+            Some(key) => sizes::prepared_length(key.nk, d),
             None => 0,
         },
-        Command::Split => in_shares(n, length),
+        Command::Split => n * length.min(32),
         Command::Join => outcomes::asked::share_length(n, length).unwrap_or(0),
         _ => n,
     }

@@ -90,6 +90,7 @@ fn take_pairs(
     ensures { (result ≡ Place.product_need d)
         × (sums.new ≡ Place.product Field.times d a.now b.now tape.now) }
 {
+    // Kept: the place on the tape is counted. Row i has d - i pairs, so no chunks of one length are the rows.
     let mut drawn: usize = 0;
     for i in 0..d {
         drawn += product_row(tables, i, d - i, a, b, &tape[drawn..], sums);

@@ -27,6 +27,7 @@ fn run_rounds(
         ≡ laid (rounds_of which nr nr 1 d (parts (suc d) m keys.now) (parts (suc d) 16 s.old)
         (bytes_of tape.now))) }
 {
+    // Kept: each round gets the tape from its own draw on, and the count rises with each (document 01); i is the round's number.
     let mut at: usize = 0;
     for i in 1..nr + 1 {
         let r = crate::round::key_number(which, nr, i);

@@ -24,6 +24,7 @@ fn expand(
         ≡ schedule_from (total - nk) nk nk d (written d total nk keys.old) (bytes_of tape.now)) }
 {
     let m = 4 * total;
+    // Kept: a word draws or doesn't by its number, and gets the tape from its own draw on (document 01).
     let mut at: usize = 0;
     for i in nk..total {
         at += crate::word::next_word(tables, nk, d, m, i, &tape[at..], keys);

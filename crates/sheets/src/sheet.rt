@@ -55,6 +55,7 @@ fn sheet_rows(
     let n = d + 1;
     masking::steps::start_sums(tables, n, a, b, sums);
     sheet_parts::parts::put_starts(n, sums, table);
+    // Kept: the places on the tape and in out are counted. Row i has d - i pairs, so no chunks of one length are the rows.
     let mut drawn: usize = 0;
     for i in 0..d {
         let at = 5 * drawn;

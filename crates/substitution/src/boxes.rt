@@ -49,6 +49,7 @@ fn sub_spaced(
     ensures { (result ≡ subs_need d (spaced first stride))
         × (s.new ≡ laid (subs_of which d (spaced first stride) (parts (suc d) l s.old) tape.now)) }
 {
+    // Kept: each S-box gets the tape from its own draw on, and the count rises with each (document 01); m is which of the four it is.
     let mut at: usize = 0;
     let n = l / stride;
     for m in 0..n {
@@ -90,6 +91,7 @@ pub fn sub_rows(
     ensures { (4 * result ≡ subs_need d by_rows)
         × (s.new ≡ laid (subs_of which d by_rows (parts (suc d) 16 s.old) (bytes_of tape.now))) }
 {
+    // Kept: as in `sub_spaced`, row by row.
     let mut at: usize = 0;
     for r in 0..4 {
         at += sub_four(tables, which, d, 16, r, 4, &tape[at..], s);

@@ -1,8 +1,23 @@
 -- `command_calls::routines::room` meets its contract. Assumes nothing.
-use Prim.Native.Nat.{◌+◌}
-use native.Mathlib.Omega.{arith}
-use Rattle.outcomes.proofs.LengthsLaws.{share_length_le}
+use Rattle.std.proofs.Common.{◌≡◌, ℕ, ◌+◌, ◌≤◌, arith, sym, ◌∙◌}
+use Rattle.std.specs.Prelude.{Option, Some, None}
+use Rattle.std.specs.Option.{unwrap_or}
+use native.Mathlib.Nat.{mul-le-mul}
+use Rattle.outcomes.specs.Outcome.{listed_length, key_lengths}
+use Rattle.outcomes.proofs.LengthsLaws.{share_length_le, share_length-some}
 use Rattle.command_calls.proofs.routines.room.Goals as goal
 
+-- a share's length, or 0 for none
+share_or_none : (o : Option ℕ) (n b q : ℕ) → o ≡ listed_length key_lengths n b → q ≡ unwrap_or o 0 → q ≤ 32
+share_or_none None n b q e f = omega arith
+share_or_none (Some l) n b q e f = omega (arith, share_length_le n b, (share_length-some n b l (sym e)).0)
+
+pub returns-in-Split : goal.returns-in-Split
+returns-in-Split c =
+    let n : c.min-d.result + 1 ≤ 9 = omega (arith, c.min-d.ensures) in
+    let l : c.min.result ≤ 32 = omega (arith, c.min.ensures) in
+    omega (arith, mul-le-mul n l)
+
 pub returns-in-Join : goal.returns-in-Join
-returns-in-Join c = let a = c.args in omega (arith, share_length_le (a.order + 1) a.length)
+returns-in-Join c =
+    omega (arith, share_or_none c.share_length.result (c.min-d.result + 1) c.args.length c.unwrap_or.result c.share_length.ensures c.unwrap_or.ensures)
