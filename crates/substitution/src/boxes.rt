@@ -59,7 +59,9 @@ fn sub_spaced(
     at
 }
 
-// The same on a tape of words. Answers with how many words were drawn.
+// The same on a tape of words. Answers with how many words were drawn. It is a call of its own in the built library too: inlined, a round has it
+// four times, and its stack four times what is drawn here.
+#[inline(never)]
 fn sub_four(
     tables: &Tables,
     which: Direction,
