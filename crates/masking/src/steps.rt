@@ -55,12 +55,15 @@ fn half_row(
         × (half.new ≡ front (tab (Steps.halves a.now b.now tape.now i) w) half.old) }
 {
     let ai = a[i];
+    // Kept: the count rises with each draw, as document 01 asks ("What form each place takes").
+    let mut drawn: usize = 0;
     for (m, r) in tape[..w].iter().enumerate() {
+        drawn += 1;
         let c = table_times(logs, antilogs, ai, b[i + 1 + m]);
         upper[m] = c;
         half[m] = *r ^ c;
     }
-    w
+    drawn
 }
 
 // Their second half: r(j, i) is what the first half left XOR a_j · b_i.

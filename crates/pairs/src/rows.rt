@@ -23,11 +23,14 @@ pub fn sum_row(
 {
     let start = sums[i];
     let mut s = start;
+    // Kept: the count rises with each draw, as document 01 asks ("What form each place takes").
+    let mut drawn: usize = 0;
     for (m, r) in tape[..w].iter().enumerate() {
+        drawn += 1;
         s ^= *r;
         own[m] = s;
         sums[i + 1 + m] ^= back[m];
     }
     sums[i] = own[w - 1];
-    w
+    drawn
 }
