@@ -31,6 +31,7 @@ each_by_last f i (x ∷ a) s =
     (each_by_last f (suc i) a s
     ∙ ap (λ (m : ℕ). each_by f (suc i) a ++ (f m s ∷ [])) (suc-add i (length a) ∙ sym (add-suc i (length a))))
 
+-- the same function for each share
 pub each_by-map : (f : List ℕ → List ℕ) (i : ℕ) (ss : Shares) → each_by (λ i. f) i ss ≡ map f ss
 unfolding each_by
 each_by-map f i [] = refl
@@ -50,11 +51,6 @@ done_all f l s₀ s i n q h e =
     let z : drop (n * l) s₀ ≡ [] = (let g : length s₀ ≤ n * l = omega arith in drop_of_length-le s₀ g) in
     e ∙ ap (λ (m : ℕ). laid (each_by f 0 (parts m l s₀)) ++ drop (m * l) s₀) q ∙ ap (◌++◌ (laid (each_by f 0 (parts n l s₀)))) z
     ∙ append-nil (laid (each_by f 0 (parts n l s₀)))
-
--- the same function for each share
-pub done-map : (f : List ℕ → List ℕ) (l : ℕ) (s₀ s : List ℕ) (i n : ℕ) → i ≡ n → length s₀ ≡ n * l → Done (λ i. f) l s₀ i s
-    → s ≡ laid (map f (parts n l s₀))
-done-map f l s₀ s i n q h e = done_all (λ i. f) l s₀ s i n q h e ∙ ap laid (each_by-map f 0 (parts n l s₀))
 
 module _ (f : ℕ → List ℕ → List ℕ) (l n : ℕ) (keeps : (i : ℕ) → i < n → (s : List ℕ) → length s ≡ l → length (f i s) ≡ l) where
   made-length : (i j : ℕ) (bs : List ℕ) → j + i ≤ n → i * l ≤ length bs → length (laid (each_by f j (parts i l bs))) ≡ i * l
