@@ -13,6 +13,8 @@ rows_next m n i = omega (arith, ap (λ (x : ℕ). m * x) (before_row_next n i))
 pub rows_fit : (m n i : ℕ) → i < n → m * before_row n (i + 1) ≤ m * pair_count n
 rows_fit m n i h = mul-le-mul_left m (before_row_le n i h)
 
+pub ruleset pair_rows = (rows_next, rows_fit)
+
 -- the parts of a product: two factors, the pairs, the running sums
 pub place_count_parts : (d : ℕ) → place_count d ≡ (d + 1) + (d + 1) + 5 * pair_count (d + 1) + (d + 1) * (d + 1)
 unfolding place_count

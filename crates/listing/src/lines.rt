@@ -51,6 +51,7 @@ impl<'a> Lines<'a> {
     }
 
     // As many lines for each pair i < j of n shares, in the order of the draws. The name of line k of a pair is what `name` prints at i, j and k.
+    #[tactic(auto, using(crate::proofs::CountLaws::pair_rows), unfolding(xor::specs::Pairs::before_row))]
     pub fn each_pair<F: Fn(usize, usize, usize)>(&mut self, n: usize, count: usize, name: F)
         requires room { self.old.next + count * pair_count n ≤ most }
         requires named { (i j k : ℕ) → i < j → j < n → k < count → F.pre name i j k }

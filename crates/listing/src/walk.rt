@@ -11,7 +11,7 @@ pub enum Part {
 // The number of the next S-box, and where it begins: its first byte on the tape, or its first place.
 #[derive(Drop)]
 pub struct Walk {
-    pub number: usize,
+    number: usize,
     pub at: usize,
 }
 
