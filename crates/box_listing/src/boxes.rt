@@ -52,7 +52,7 @@ pub fn print(w: Direction, d: usize) -> usize
     requires { d ≤ 8 }
     ensures { result ≡ box_count d }
 {
-    let mut lines = Lines::from(0, &[]);
+    let mut lines = Lines::new(&[]);
     match w {
         Direction::Forward => forward(&mut lines, d),
         Direction::Inverse => inverse(&mut lines, d),

@@ -46,10 +46,11 @@ fn with_keys(walk: &mut Walk, w: Direction, nk: usize, d: usize)
     ensures { walk.new.at ≡ walk.old.at + with_of w nk d }
 {
     lines::string(walk, 16, d);
-    match w {
-        Direction::Forward => lines::end(b"block plus round key ", 0),
-        Direction::Inverse => lines::end(b"block plus round key ", nk + 6),
-    }
+    let first = match w {
+        Direction::Forward => 0,
+        Direction::Inverse => nk + 6,
+    };
+    lines::end(b"block plus round key ", first);
     crate::rounds::rounds(walk, w, nk, d);
 }
 

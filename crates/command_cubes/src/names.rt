@@ -72,6 +72,6 @@ pub fn cube(lines: &mut Lines, d: usize)
 #[tactic(auto, using(crate::proofs::CubeCounts::cube_count_bound))]
 pub fn print(d: usize, sheet: &[u8]) {
     if d <= 8 {
-        cube(&mut Lines::from(0, sheet), d);
+        cube(&mut Lines::new(sheet), d);
     }
 }

@@ -14,13 +14,11 @@ pub struct Lines<'a> {
 }
 
 impl<'a> Lines<'a> {
-    pub fn from(next: usize, sheet: &'a [u8]) -> Lines<'a>
-        ensures { result.next ≡ next }
+    // Before place 0.
+    pub fn new(sheet: &'a [u8]) -> Lines<'a>
+        ensures { result.next ≡ 0 }
     {
-        Lines {
-            next: next,
-            sheet: sheet,
-        }
+        Lines { next: 0, sheet }
     }
 
     // The end of a line: the byte that the sheet has there, if any.

@@ -81,6 +81,6 @@ pub fn product(lines: &mut Lines, d: usize)
 #[tactic(auto, using(crate::proofs::CountLaws::place_count_bound))]
 pub fn print(d: usize, sheet: &[u8]) {
     if d <= 8 {
-        product(&mut Lines::from(0, sheet), d);
+        product(&mut Lines::new(sheet), d);
     }
 }
