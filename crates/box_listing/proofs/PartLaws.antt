@@ -1,8 +1,5 @@
 -- The parts of an S-box's listing, as the code adds them up. Assumes nothing.
-use mathlib.Core.Path.{◌≡◌, refl}
-use Prim.Native.Nat.{ℕ, ◌+◌, ◌*◌}
-use native.Mathlib.Numerals.{add-one}
-use native.Mathlib.Omega.{arith}
+use Rattle.std.proofs.Common.{◌≡◌, ℕ, ◌+◌, ◌*◌, refl, add-one, arith}
 use Rattle.xor.specs.Pairs.{pair_count}
 use Rattle.isw.specs.Place.{place_count}
 use Rattle.refresh.specs.Places.{refresh_count}
@@ -10,26 +7,26 @@ use Rattle.refresh.proofs.RefreshLaws.{refresh_need-pairs}
 use Rattle.gadgets.specs.Cube.{cube_count}
 use Rattle.probing.specs.BoxPlaces.{times_count, first_count, second_count, last_count, power_count, box_count}
 
-pub times-parts : (d : ℕ) → place_count d + (d + 1) * (d + 1) ≡ times_count d
+pub times_count_parts : (d : ℕ) → times_count d ≡ place_count d + (d + 1) * (d + 1)
 unfolding times_count
-times-parts d = omega arith
+times_count_parts d = omega arith
 
-pub first_parts : (d : ℕ) → d + 1 + (cube_count d + (d + 1) * (d + 1)) ≡ first_count d
+pub first_count_parts : (d : ℕ) → first_count d ≡ d + 1 + (cube_count d + (d + 1) * (d + 1))
 unfolding first_count
-first_parts d = omega arith
+first_count_parts d = omega arith
 
-pub second_parts : (d : ℕ) → (d + 1) * 3 + (3 * pair_count (d + 1) + times_count d) ≡ second_count d
+pub second_count_parts : (d : ℕ) → second_count d ≡ (d + 1) * 3 + (3 * pair_count (d + 1) + times_count d)
 unfolding second_count refresh_count
-second_parts d = rw (add-one d) (omega (arith, refresh_need-pairs d))
+second_count_parts d = rw (add-one d) (omega (arith, refresh_need-pairs d))
 
-pub last_parts : (d : ℕ) → (d + 1) * 5 + (times_count d + times_count d) ≡ last_count d
+pub last_count_parts : (d : ℕ) → last_count d ≡ (d + 1) * 5 + (times_count d + times_count d)
 unfolding last_count
-last_parts d = omega arith
+last_count_parts d = omega arith
 
-pub power-parts : (d : ℕ) → first_count d + (second_count d + last_count d) ≡ power_count d
+pub power_count_parts : (d : ℕ) → power_count d ≡ first_count d + (second_count d + last_count d)
 unfolding power_count
-power-parts d = refl
+power_count_parts d = refl
 
-pub box-parts : (d : ℕ) → power_count d + (d + 1) * 4 ≡ box_count d
+pub box_count_parts : (d : ℕ) → box_count d ≡ power_count d + (d + 1) * 4
 unfolding box_count
-box-parts d = omega arith
+box_count_parts d = omega arith

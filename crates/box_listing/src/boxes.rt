@@ -1,43 +1,61 @@
 // The listing of an S-box or of an inverse S-box.
-ghost use Rattle.std.specs.Prelude.{◌≡◌, ◌≤◌};
+ghost use Rattle.std.specs.Prelude.{◌≡◌, ◌+◌, ◌≤◌};
+ghost use Rattle.listing.specs.Most.{most};
 ghost use Rattle.probing.specs.BoxPlaces.{box_count};
 
 use crate::groups;
+use crate::groups::AffineNames;
 use gf256::Direction;
+use listing::lines::Lines;
 
 // Power 254, and then the affine map.
-fn forward(d: usize) -> usize
-    requires { d ≤ 8 }
-    ensures { result ≡ box_count d }
+#[tactic(auto, using(crate::proofs::PartLaws::box_count_parts))]
+fn forward(lines: &mut Lines, d: usize)
+    requires { (d ≤ 8) × (lines.old.next + box_count d ≤ most) }
+    ensures { lines.new.next ≡ lines.old.next + box_count d }
 {
     text::print(b"x: the shares of the input\n");
-    let k = crate::power::power(d, 0);
+    crate::power::power(lines, d);
     text::print(
         b"o, the output: the affine map of p, L its linear part; at odd orders o_0 has 63 once more\n",
     );
-    groups::affine(Direction::Forward, b"p_", b"o_", d + 1, k)
+    let names = AffineNames {
+        input: b"p_",
+        constant: b"^63",
+        output: b"o_",
+    };
+    groups::affine(lines, names, d + 1);
 }
 
 // The inverse affine map, and then power 254.
-fn inverse(d: usize) -> usize
-    requires { d ≤ 8 }
-    ensures { result ≡ box_count d }
+#[tactic(auto, using(crate::proofs::PartLaws::box_count_parts))]
+fn inverse(lines: &mut Lines, d: usize)
+    requires { (d ≤ 8) × (lines.old.next + box_count d ≤ most) }
+    ensures { lines.new.next ≡ lines.old.next + box_count d }
 {
     text::print(
         b"i, the input; x: the inverse affine map of i, L its linear part; at odd orders x_0 has 05 once more\n",
     );
-    let k = groups::affine(Direction::Inverse, b"i_", b"x_", d + 1, 0);
+    let names = AffineNames {
+        input: b"i_",
+        constant: b"^05",
+        output: b"x_",
+    };
+    groups::affine(lines, names, d + 1);
     text::print(b"x; its power 254, p, is the output\n");
-    crate::power::power(d, k)
+    crate::power::power(lines, d);
 }
 
 // All places. Answers with their number.
+#[tactic(auto, using(place_counts::proofs::CountLaws::box_count_bound))]
 pub fn print(w: Direction, d: usize) -> usize
     requires { d ≤ 8 }
     ensures { result ≡ box_count d }
 {
+    let mut lines = Lines::new(&[]);
     match w {
-        Direction::Forward => forward(d),
-        Direction::Inverse => inverse(d),
+        Direction::Forward => forward(&mut lines, d),
+        Direction::Inverse => inverse(&mut lines, d),
     }
+    lines.next
 }

@@ -5,75 +5,79 @@ ghost use Rattle.probing.specs.BoxPlaces.{times_count, first_count, second_count
 
 use crate::groups;
 use command_cubes::names;
-use command_cubes::names::Of;
+use listing::lines::Lines;
+use listing::places;
 
 // A product and the factors of its field products, each under its title.
-fn times(d: usize, first: usize, title: &[u8], factors: &[u8]) -> usize
-    requires { (d ≤ 8) × (first + times_count d ≤ most) }
-    ensures { result ≡ first + times_count d }
+#[tactic(auto, using(crate::proofs::PartLaws::times_count_parts))]
+fn times(lines: &mut Lines, d: usize, title: &[u8], factors: &[u8])
+    requires { (d ≤ 8) × (lines.old.next + times_count d ≤ most) }
+    ensures { lines.new.next ≡ lines.old.next + times_count d }
 {
     text::print(title);
-    let k = listing::places::product(d, first, &[]);
+    places::product(lines, d);
     text::print(factors);
-    groups::factors(d + 1, k)
+    groups::factors(lines, d + 1);
 }
 
 // z = x², refreshed, and y = z·x. The title of x is the caller's.
-fn first_stage(d: usize, first: usize) -> usize
-    requires { (d ≤ 8) × (first + first_count d ≤ most) }
-    ensures { result ≡ first + first_count d }
+#[tactic(auto, using(crate::proofs::PartLaws::first_count_parts))]
+fn first_stage(lines: &mut Lines, d: usize)
+    requires { (d ≤ 8) × (lines.old.next + first_count d ≤ most) }
+    ensures { lines.new.next ≡ lines.old.next + first_count d }
 {
-    let n = d + 1;
-    let mut k = listing::places::factor(b"x_", n, first, &[]);
+    places::factor(lines, b"x_", d + 1);
     text::print(b"z = x*x refreshed; y = z*x: a is z, b is x, c is y\n");
-    k = names::cube(d, k, &[]);
+    names::cube(lines, d);
     text::print(b"y = z*x: both factors of each field product, as one value\n");
-    groups::factors(n, k)
+    groups::factors(lines, d + 1);
 }
 
 // w = y⁴, refreshed, and v = y·w.
-fn second_stage(d: usize, first: usize) -> usize
-    requires { (d ≤ 8) × (first + second_count d ≤ most) }
-    ensures { result ≡ first + second_count d }
+#[tactic(auto, using(crate::proofs::PartLaws::second_count_parts))]
+fn second_stage(lines: &mut Lines, d: usize)
+    requires { (d ≤ 8) × (lines.old.next + second_count d ≤ most) }
+    ensures { lines.new.next ≡ lines.old.next + second_count d }
 {
-    let n = d + 1;
     text::print(b"q = y to the 4; w = q refreshed\n");
-    let mut k = groups::fourths(b"y_", n, first);
-    k = names::pairs(Of::Fourths, n, k, &[]);
+    groups::powers(lines, b"y_", d + 1, 3);
+    names::pairs(lines, d + 1, |i| text::print_with(b"q_", i));
     times(
+        lines,
         d,
-        k,
         b"v = y*w: a is y, b is w, c is v\n",
         b"v = y*w: both factors of each field product, as one value\n",
-    )
+    );
 }
 
 // u = v¹⁶·w, and p = u·z.
-fn last_stage(d: usize, first: usize) -> usize
-    requires { (d ≤ 8) × (first + last_count d ≤ most) }
-    ensures { result ≡ first + last_count d }
+#[tactic(auto, using(crate::proofs::PartLaws::last_count_parts))]
+fn last_stage(lines: &mut Lines, d: usize)
+    requires { (d ≤ 8) × (lines.old.next + last_count d ≤ most) }
+    ensures { lines.new.next ≡ lines.old.next + last_count d }
 {
     text::print(b"s = v to the 16\n");
-    let mut k = groups::sixteenths(b"v_", d + 1, first);
-    k = times(
+    groups::powers(lines, b"v_", d + 1, 5);
+    times(
+        lines,
         d,
-        k,
         b"u = s*w: a is s, b is w, c is u\n",
         b"u = s*w: both factors of each field product, as one value\n",
     );
     times(
+        lines,
         d,
-        k,
         b"p = u*z, x to the 254: a is u, b is z, c is p\n",
         b"p = u*z: both factors of each field product, as one value\n",
-    )
+    );
 }
 
-pub fn power(d: usize, first: usize) -> usize
-    requires { (d ≤ 8) × (first + power_count d ≤ most) }
-    ensures { result ≡ first + power_count d }
+#[tactic(auto, using(crate::proofs::PartLaws::power_count_parts))]
+pub fn power(lines: &mut Lines, d: usize)
+    requires { (d ≤ 8) × (lines.old.next + power_count d ≤ most) }
+    ensures { lines.new.next ≡ lines.old.next + power_count d }
 {
-    let mut k = first_stage(d, first);
-    k = second_stage(d, k);
-    last_stage(d, k)
+    first_stage(lines, d);
+    second_stage(lines, d);
+    last_stage(lines, d);
 }

@@ -5,9 +5,9 @@ ghost use Rattle.probing.specs.StringPlaces.{string_count};
 ghost use Rattle.probing.specs.CallPlaces.{call_count};
 ghost use Rattle.call_listing.specs.Walk.{most, with_of};
 
-use crate::boxes::Spot;
 use crate::lines;
 use gf256::Direction;
+use listing::walk::Walk;
 
 // How the places of a range are ordered.
 fn print_reading(w: Direction) {
@@ -29,45 +29,42 @@ round 1 is the first to run, and state bytes are those after InvShiftRows\n",
 }
 
 // The shares of the key and of the block.
-fn inputs(nk: usize, d: usize) -> usize
-    requires { (d ≤ 8) × (nk ≤ 8) × (string_count (4 * nk) d + string_count 16 d ≤ most) }
-    ensures { result ≡ string_count (4 * nk) d + string_count 16 d }
+fn inputs(walk: &mut Walk, nk: usize, d: usize)
+    requires { (d ≤ 8) × (nk ≤ 8) × (walk.old.at + string_count (4 * nk) d + string_count 16 d ≤ most) }
+    ensures { walk.new.at ≡ walk.old.at + string_count (4 * nk) d + string_count 16 d }
 {
-    let mut at = lines::string(4 * nk, d, 0);
+    lines::string(walk, 4 * nk, d);
     text::print(b"key shares\n");
-    at = lines::string(16, d, at);
+    lines::string(walk, 16, d);
     text::print(b"block shares\n");
-    at
 }
 
 // What follows the key expansion: the block plus the first round key that is used, and the rounds.
-fn with_keys(w: Direction, nk: usize, d: usize, s: Spot) -> usize
-    requires { (d ≤ 8) × (nk ≤ 8) × (s.at + with_of w nk d ≤ most) }
-    ensures { result ≡ s.at + with_of w nk d }
+#[tactic(auto, using(crate::proofs::WalkLaws::with_of_parts))]
+fn with_keys(walk: &mut Walk, w: Direction, nk: usize, d: usize)
+    requires { (d ≤ 8) × (nk ≤ 8) × (walk.old.at + with_of w nk d ≤ most) }
+    ensures { walk.new.at ≡ walk.old.at + with_of w nk d }
 {
-    let next = lines::string(16, d, s.at);
-    match w {
-        Direction::Forward => lines::end(b"block plus round key ", 0),
-        Direction::Inverse => lines::end(b"block plus round key ", nk + 6),
-    }
-    let after = Spot {
-        number: s.number,
-        at: next,
+    lines::string(walk, 16, d);
+    let first = match w {
+        Direction::Forward => 0,
+        Direction::Inverse => nk + 6,
     };
-    crate::rounds::rounds(w, nk, d, after)
+    lines::end(b"block plus round key ", first);
+    crate::rounds::rounds(walk, w, nk, d);
 }
 
 // All places of a call with a key of nk words. Answers with their number.
+#[tactic(auto, using(crate::proofs::WalkLaws::call_count_parts))]
 pub fn print(w: Direction, nk: usize, d: usize) -> usize
     requires { (d ≤ 8) × KeySize nk }
     ensures { result ≡ call_count w nk d }
 {
     print_reading(w);
-    let start = Spot {
-        number: 0,
-        at: inputs(nk, d),
-    };
-    let total = with_keys(w, nk, d, crate::key::words(nk, d, start));
-    lines::end(b"total ", total);
-    total
+    let mut walk = Walk::new();
+    inputs(&mut walk, nk, d);
+    crate::key::words(&mut walk, nk, d);
+    with_keys(&mut walk, w, nk, d);
+    lines::end(b"total ", walk.at);
+    walk.at
 }

@@ -4,61 +4,50 @@ ghost use Rattle.cipher.specs.Fips197.{kind, turned};
 ghost use Rattle.probing.specs.SchedulePlaces.{temp_count, word_count, schedule_count};
 ghost use Rattle.call_listing.specs.Walk.{most};
 
-use crate::boxes::Spot;
 use crate::{boxes, lines};
+use listing::walk::Walk;
 
 // The temporary word of a word that Rcon goes into.
-fn turned_temp(d: usize, i: usize, start: Spot) -> Spot
-    requires { (d ≤ 8) × (start.at + temp_count d turned ≤ most) }
-    ensures { result.at ≡ start.at + temp_count d turned }
+#[tactic(auto, unfolding(probing::specs::SchedulePlaces::temp_count))]
+fn turned_temp(walk: &mut Walk, d: usize, i: usize)
+    requires { (d ≤ 8) × (walk.old.at + temp_count d turned ≤ most) }
+    ensures { walk.new.at ≡ walk.old.at + temp_count d turned }
 {
-    let s = boxes::of_word(d, i, start);
-    let next = lines::string(4, d, s.at);
+    boxes::of_word(walk, d, i);
+    lines::string(walk, 4, d);
     lines::end(b"temporary word after Rcon, for key word ", i);
-    Spot {
-        number: s.number,
-        at: next,
-    }
 }
 
 // The temporary word as word i wants it.
-fn temp(nk: usize, d: usize, i: usize, start: Spot) -> Spot
-    requires { (d ≤ 8) × (1 ≤ nk) × (start.at + temp_count d (kind nk i) ≤ most) }
-    ensures { result.at ≡ start.at + temp_count d (kind nk i) }
+#[tactic(auto, using(crate::proofs::WalkLaws::temp_counts))]
+fn temp(walk: &mut Walk, nk: usize, d: usize, i: usize)
+    requires { (d ≤ 8) × (1 ≤ nk) × (walk.old.at + temp_count d (kind nk i) ≤ most) }
+    ensures { walk.new.at ≡ walk.old.at + temp_count d (kind nk i) }
 {
-    let left = i % nk;
-    if left == 0 {
-        return turned_temp(d, i, start);
+    match i % nk {
+        0 => turned_temp(walk, d, i),
+        4 if nk > 6 => boxes::of_word(walk, d, i),
+        _ => {}
     }
-    if nk > 6 {
-        if left == 4 {
-            return boxes::of_word(d, i, start);
-        }
-    }
-    start
 }
 
-fn word(nk: usize, d: usize, i: usize, start: Spot) -> Spot
-    requires { (d ≤ 8) × (1 ≤ nk) × (start.at + word_count nk d i ≤ most) }
-    ensures { result.at ≡ start.at + word_count nk d i }
+#[tactic(auto, unfolding(probing::specs::SchedulePlaces::word_count))]
+fn word(walk: &mut Walk, nk: usize, d: usize, i: usize)
+    requires { (d ≤ 8) × (1 ≤ nk) × (walk.old.at + word_count nk d i ≤ most) }
+    ensures { walk.new.at ≡ walk.old.at + word_count nk d i }
 {
-    let s = temp(nk, d, i, start);
-    let next = lines::string(4, d, s.at);
+    temp(walk, nk, d, i);
+    lines::string(walk, 4, d);
     lines::end(b"key word ", i);
-    Spot {
-        number: s.number,
-        at: next,
-    }
 }
 
 // All words behind the key's own.
-pub fn words(nk: usize, d: usize, start: Spot) -> Spot
-    requires { (d ≤ 8) × (1 ≤ nk) × (nk ≤ 8) × (start.at + schedule_count nk d ≤ most) }
-    ensures { result.at ≡ start.at + schedule_count nk d }
+#[tactic(auto, using(crate::proofs::WalkLaws::schedule_counts))]
+pub fn words(walk: &mut Walk, nk: usize, d: usize)
+    requires { (d ≤ 8) × (1 ≤ nk) × (nk ≤ 8) × (walk.old.at + schedule_count nk d ≤ most) }
+    ensures { walk.new.at ≡ walk.old.at + schedule_count nk d }
 {
-    let mut s = start;
     for i in nk..4 * (nk + 7) {
-        s = word(nk, d, i, s);
+        word(walk, nk, d, i);
     }
-    s
 }

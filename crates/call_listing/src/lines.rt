@@ -3,24 +3,26 @@ ghost use Rattle.std.specs.Prelude.{◌≡◌, ◌+◌, ◌≤◌};
 ghost use Rattle.probing.specs.StringPlaces.{string_count};
 ghost use Rattle.call_listing.specs.Walk.{most};
 
-// The start of a line, for the n places from number `at` on. Answers with the number behind the last.
-pub fn range(at: usize, n: usize) -> usize
-    requires { (1 ≤ n) × (at + n ≤ most) }
-    ensures { result ≡ at + n }
+use listing::walk::Walk;
+
+// The start of a line, for the next n places.
+pub fn range(walk: &mut Walk, n: usize)
+    requires { (1 ≤ n) × (walk.old.at + n ≤ most) }
+    ensures { walk.new.at ≡ walk.old.at + n }
 {
-    let next = at + n;
-    text::print_number(at);
-    text::print_with(b"..", next - 1);
+    text::print_number(walk.at);
+    walk.at += n;
+    text::print_with(b"..", walk.at - 1);
     text::print(b" ");
-    next
 }
 
 // The same for a string of m bytes in shares.
-pub fn string(m: usize, d: usize, at: usize) -> usize
-    requires { (d ≤ 8) × (m ≤ 32) × (at + string_count m d ≤ most) }
-    ensures { result ≡ at + string_count m d }
+#[tactic(auto, using(place_counts::proofs::CountLaws::string_count_some))]
+pub fn string(walk: &mut Walk, m: usize, d: usize)
+    requires { (d ≤ 8) × (m ≤ 32) × (walk.old.at + string_count m d ≤ most) }
+    ensures { walk.new.at ≡ walk.old.at + string_count m d }
 {
-    range(at, place_counts::string_count(m, d))
+    range(walk, place_counts::string_count(m, d));
 }
 
 // The end of a line: a name that ends with a number.

@@ -4,3 +4,4 @@
 pub mod lines;
 pub mod places;
 pub mod tape;
+pub mod walk;

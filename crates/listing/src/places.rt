@@ -1,11 +1,10 @@
-// The places of a product by number and name, in document 01's order. Each function prints some lines, beginning with number k, and answers with
-// the number behind its last. A sheet adds the byte at each place; an empty one adds nothing.
-ghost use Rattle.std.specs.Prelude.{◌≡◌, ◌+◌, ◌-◌, ◌*◌, ◌<◌, ◌≤◌};
-ghost use Rattle.xor.specs.Pairs.{pair_count};
+// The places of a product by number and name, in document 01's order.
+ghost use Rattle.std.specs.Prelude.{◌≡◌, ◌+◌, ◌≤◌};
 ghost use Rattle.isw.specs.Place.{place_count};
 ghost use Rattle.listing.specs.Most.{most};
 
 use crate::lines;
+use crate::lines::Lines;
 
 // `a_0*b_1`
 fn print_cross(i: usize, j: usize) {
@@ -18,83 +17,22 @@ fn print_draw(i: usize, j: usize) {
     lines::print_of(b"r(", i, j);
 }
 
-// `a_0` and so on: the n shares of a factor.
-pub fn factor(of: &[u8], n: usize, first: usize, sheet: &[u8]) -> usize
-    requires { first + n ≤ most }
-    ensures { result ≡ first + n }
-{
-    let mut k = first;
-    for i in 0..n {
-        lines::start(k);
-        text::print_with(of, i);
-        k = lines::end(k, sheet);
-    }
-    k
-}
-
-fn draw(i: usize, j: usize, k: usize, sheet: &[u8]) -> usize
-    requires { k < most }
-    ensures { result ≡ k + 1 }
-{
-    lines::start(k);
-    print_draw(i, j);
-    lines::end(k, sheet)
-}
-
-fn cross(i: usize, j: usize, k: usize, sheet: &[u8]) -> usize
-    requires { k < most }
-    ensures { result ≡ k + 1 }
-{
-    lines::start(k);
-    print_cross(i, j);
-    lines::end(k, sheet)
-}
-
 // `r(0,1)^a_0*b_1`
-fn half(i: usize, j: usize, k: usize, sheet: &[u8]) -> usize
-    requires { k < most }
-    ensures { result ≡ k + 1 }
-{
-    lines::start(k);
+fn print_half(i: usize, j: usize) {
     print_draw(i, j);
     text::print(b"^");
     print_cross(i, j);
-    lines::end(k, sheet)
 }
 
-// The five places of a pair i < j.
-fn pair(i: usize, j: usize, first: usize, sheet: &[u8]) -> usize
-    requires { first + 5 ≤ most }
-    ensures { result ≡ first + 5 }
-{
-    let mut k = draw(i, j, first, sheet);
-    k = cross(i, j, k, sheet);
-    k = half(i, j, k, sheet);
-    k = cross(j, i, k, sheet);
-    draw(j, i, k, sheet)
-}
-
-// The pairs whose first share is i.
-fn pair_row(n: usize, i: usize, first: usize, sheet: &[u8]) -> usize
-    requires { (i ≤ 8) × (first + 5 * (n - (i + 1)) ≤ most) }
-    ensures { result ≡ first + 5 * (n - (i + 1)) }
-{
-    let mut k = first;
-    for j in i + 1..n {
-        k = pair(i, j, k, sheet);
+// The name of place k of the five of a pair i < j.
+fn print_of_pair(i: usize, j: usize, k: usize) {
+    match k {
+        0 => print_draw(i, j),
+        1 => print_cross(i, j),
+        2 => print_half(i, j),
+        3 => print_cross(j, i),
+        _ => print_draw(j, i),
     }
-    k
-}
-
-fn pairs(n: usize, first: usize, sheet: &[u8]) -> usize
-    requires { (n ≤ 9) × (first + 5 * pair_count n ≤ most) }
-    ensures { result ≡ first + 5 * pair_count n }
-{
-    let mut k = first;
-    for i in 0..n {
-        k = pair_row(n, i, k, sheet);
-    }
-    k
 }
 
 // `a_0*b_0` and the first m terms of row i behind it, as `^r(0,1)`.
@@ -119,45 +57,30 @@ fn print_part(d: usize, i: usize, m: usize)
     }
 }
 
-// The running sums of row i.
-fn sums(d: usize, i: usize, first: usize, sheet: &[u8]) -> usize
-    requires { (d ≤ 8) × (first + (d + 1) ≤ most) }
-    ensures { result ≡ first + (d + 1) }
+// `a_0` and so on: the n shares of a factor.
+pub fn factor(lines: &mut Lines, of: &[u8], n: usize)
+    requires { lines.old.next + n ≤ most }
+    ensures { lines.new.next ≡ lines.old.next + n }
 {
-    let mut k = first;
-    for m in 0..d + 1 {
-        lines::start(k);
-        print_part(d, i, m);
-        k = lines::end(k, sheet);
-    }
-    k
+    lines.each(n, |i| text::print_with(of, i));
 }
 
-fn rows(d: usize, first: usize, sheet: &[u8]) -> usize
-    requires { (d ≤ 8) × (first + (d + 1) * (d + 1) ≤ most) }
-    ensures { result ≡ first + (d + 1) * (d + 1) }
-{
-    let mut k = first;
-    for i in 0..d + 1 {
-        k = sums(d, i, k, sheet);
-    }
-    k
-}
-
-// All places of a product of order d, where the first of them has that number.
-pub fn product(d: usize, first: usize, sheet: &[u8]) -> usize
-    requires { (d ≤ 8) × (first + place_count d ≤ most) }
-    ensures { result ≡ first + place_count d }
+// All places of a product of order d: two factors, the pairs, and the running sums of each row.
+#[tactic(auto, using(crate::proofs::CountLaws::place_count_parts))]
+pub fn product(lines: &mut Lines, d: usize)
+    requires { (d ≤ 8) × (lines.old.next + place_count d ≤ most) }
+    ensures { lines.new.next ≡ lines.old.next + place_count d }
 {
     let n = d + 1;
-    let mut k = factor(b"a_", n, first, sheet);
-    k = factor(b"b_", n, k, sheet);
-    k = pairs(n, k, sheet);
-    rows(d, k, sheet)
+    factor(lines, b"a_", n);
+    factor(lines, b"b_", n);
+    lines.each_pair(n, 5, print_of_pair);
+    lines.each(n * n, |t| print_part(d, t / n, t % n));
 }
 
+#[tactic(auto, using(crate::proofs::CountLaws::place_count_bound))]
 pub fn print(d: usize, sheet: &[u8]) {
     if d <= 8 {
-        product(d, 0, sheet);
+        product(&mut Lines::new(sheet), d);
     }
 }

@@ -1,69 +1,56 @@
 // Which bytes of the tape go into which step of an encryption, or of a decryption, which has as many S-boxes in the same order. Each function
-// prints some lines, or a part of one, and answers with where the walk then stands. How many bytes a step takes is the library's own number.
+// prints some lines, or a part of one, and takes the walk over the bytes further. How many bytes a step takes is the library's own number.
 // Bytes run through a call without a gap, so an S-box may begin and end within a word (document 02, wish 6).
 ghost use Rattle.std.specs.Prelude.{◌≤◌};
 ghost use Rattle.lengths.specs.Lengths.{KeySize};
 
-// Where the walk stands: the number of the next S-box, and its first byte on the tape.
-#[derive(Clone, Copy)]
-struct Spot {
-    number: usize,
-    at: usize,
-}
+use crate::walk::{Part, Walk};
 
 // A step that takes n bytes.
-fn step(name: &[u8], at: usize, n: usize) -> usize {
-    let next = std::num::wrapping_add_usize(at, n);
-    text::print_with(name, at);
-    text::print_with(b"..", std::num::wrapping_sub_usize(next, 1));
-    next
+fn step(walk: &mut Walk, name: &[u8], n: usize) {
+    text::print_with(name, walk.at);
+    walk.at = walk.at.wrapping_add(n);
+    text::print_with(b"..", walk.at.wrapping_sub(1));
 }
 
 // The words that hold the bytes up to the next one, as the end of a line.
 fn words(first: usize, next: usize) {
     text::print_with(b", in words ", first / 4);
-    text::print_with(b"..", std::num::wrapping_sub_usize(next, 1) / 4);
+    text::print_with(b"..", next.wrapping_sub(1) / 4);
     text::print(b"\n");
 }
 
 // The steps of an S-box that draw, in their order, as the end of its line.
-fn steps(d: usize, first: usize) -> usize
+fn steps(walk: &mut Walk, d: usize)
     requires { d ≤ 8 }
 {
+    let first = walk.at;
     let r = refresh::refreshing::refresh_need(d);
     let p = masking::product::product_need(d);
-    let mut at = step(b": refresh z ", first, r);
-    at = step(b", z*x ", at, p);
-    at = step(b", refresh w ", at, r);
-    at = step(b", y*w ", at, p);
-    at = step(b", y^16*w ", at, p);
-    at = step(b", y*z ", at, p);
-    words(first, at);
-    at
+    step(walk, b": refresh z ", r);
+    step(walk, b", z*x ", p);
+    step(walk, b", refresh w ", r);
+    step(walk, b", y*w ", p);
+    step(walk, b", y^16*w ", p);
+    step(walk, b", y*z ", p);
+    words(first, walk.at);
 }
 
-// An S-box: its number, what it is of (a key word or a round), and the byte that goes in.
-fn sbox_line(d: usize, of: &[u8], i: usize, byte: &[u8], k: usize, s: Spot) -> Spot
+// The S-box that byte k goes into.
+fn sbox_line(walk: &mut Walk, d: usize, part: Part, k: usize)
     requires { d ≤ 8 }
 {
-    text::print_with(b"S-box ", s.number);
-    text::print_with(of, i);
-    text::print_with(byte, k);
-    Spot {
-        number: std::num::wrapping_add_usize(s.number, 1),
-        at: steps(d, s.at),
-    }
+    walk.name_box(part, k);
+    steps(walk, d);
 }
 
 // The S-boxes for word i of the expanded key, of the bytes of the word before it.
-fn key_word(d: usize, i: usize, start: Spot) -> Spot
+fn key_word(walk: &mut Walk, d: usize, i: usize)
     requires { d ≤ 8 }
 {
-    let mut s = start;
     for k in 0..4usize {
-        s = sbox_line(d, b" key word ", i, b" byte ", k, s);
+        sbox_line(walk, d, Part::KeyWord(i), k);
     }
-    s
 }
 
 // Whether word i is made with S-boxes.
@@ -71,45 +58,35 @@ fn is_boxed(nk: usize, i: usize) -> bool
     requires { 1 ≤ nk }
 {
     let left = i % nk;
-    if left == 0 {
-        return true;
-    }
-    nk > 6 && left == 4
+    left == 0 || (nk > 6 && left == 4)
 }
 
 // All words behind the key's own.
-fn key_words(nk: usize, d: usize, start: Spot) -> Spot
+fn key_words(walk: &mut Walk, nk: usize, d: usize)
     requires { (d ≤ 8) × (1 ≤ nk) × (nk ≤ 8) }
 {
-    let mut s = start;
     for i in nk..4 * (nk + 7) {
         if is_boxed(nk, i) {
-            s = key_word(d, i, s);
+            key_word(walk, d, i);
         }
     }
-    s
 }
 
 // The S-boxes of round r, row by row.
-fn round(d: usize, r: usize, start: Spot) -> Spot
+fn round(walk: &mut Walk, d: usize, r: usize)
     requires { d ≤ 8 }
 {
-    let mut s = start;
     for m in 0..16usize {
-        let k = m / 4 + 4 * (m % 4);
-        s = sbox_line(d, b" round ", r, b" state byte ", k, s);
+        sbox_line(walk, d, Part::Round(r), m / 4 + 4 * (m % 4));
     }
-    s
 }
 
-fn rounds(nk: usize, d: usize, start: Spot) -> Spot
+fn rounds(walk: &mut Walk, nk: usize, d: usize)
     requires { (d ≤ 8) × (nk ≤ 8) }
 {
-    let mut s = start;
     for r in 1..nk + 7 {
-        s = round(d, r, s);
+        round(walk, d, r);
     }
-    s
 }
 
 // How much tape a call takes: whole words, and the bytes that it draws from them.
@@ -137,7 +114,8 @@ pub fn print(nk: usize, d: usize)
     requires { (d ≤ 8) × KeySize nk }
 {
     text::print(b"ranges are in bytes; tape word k has bytes 4*k to 4*k+3, the lowest first\n");
-    let start = Spot { number: 0, at: 0 };
-    rounds(nk, d, key_words(nk, d, start));
+    let mut walk = Walk::new();
+    key_words(&mut walk, nk, d);
+    rounds(&mut walk, nk, d);
     print_needs(nk, d);
 }

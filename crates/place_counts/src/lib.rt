@@ -6,6 +6,7 @@ ghost use Rattle.probing.specs.BoxPlaces as BoxPlaces;
 ghost use Rattle.probing.specs.StringPlaces as StringPlaces;
 
 // Of an S-box, or of an inverse S-box.
+#[tactic(auto, using(crate::proofs::CountLaws::box_count_made))]
 pub fn box_count(d: usize) -> usize
     requires { d ≤ 8 }
     ensures { result ≡ BoxPlaces.box_count d }
@@ -14,6 +15,7 @@ pub fn box_count(d: usize) -> usize
 }
 
 // Of a string of m bytes in shares: each share as one value, and its bytes.
+#[tactic(auto, using(crate::proofs::CountLaws::string_count_made))]
 pub fn string_count(m: usize, d: usize) -> usize
     requires { (d ≤ 8) × (m ≤ 32) }
     ensures { result ≡ StringPlaces.string_count m d }

@@ -1,11 +1,7 @@
 -- `call_listing::key::words` meets its contract. Assumes nothing.
-use Rattle.std.proofs.Common.{◌≡◌, ◌+◌, ◌-◌, ◌*◌, ◌≤◌}
+use Rattle.std.proofs.Common.{◌≡◌, ◌+◌, ◌-◌, ◌*◌}
 use Rattle.probing.specs.SchedulePlaces.{schedule_from_count, schedule_count}
 use Rattle.call_listing.proofs.key.words.Given as goal
 
 abbrev pub invariant-loop-i : goal.invariant-loop-i
-invariant-loop-i l =
-    (l.i ≤ 4 * (l.nk + 7)) × (l.s.at + schedule_from_count (4 * (l.nk + 7) - l.i) l.i l.nk l.d ≡ l.initial.s.at + schedule_count l.nk l.d)
-
-abbrev pub decreases-loop-i : goal.decreases-loop-i
-decreases-loop-i l = 4 * (l.nk + 7) - l.i
+invariant-loop-i l = l.walk.at + schedule_from_count (4 * (l.nk + 7) - l.i) l.i l.nk l.d ≡ l.initial.walk.at + schedule_count l.nk l.d
