@@ -29,6 +29,7 @@ fn room(c: Command, order: usize, length: usize) -> usize
 }
 
 // The routine that a command names. Those that name none of these never come here.
+// Kept: `run` takes every command, as it did, so the last arm stands.
 fn call(
     c: Command,
     order: usize,

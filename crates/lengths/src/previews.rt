@@ -31,7 +31,7 @@ pub fn preview_decrypt(
     answers::single_answer(order, key_len, input_len, tape_len, output_len)
 }
 
-// It has no input, and so never answers Refused(Input).
+// It has no input, and so never answers Err(Refusal::Input).
 pub fn preview_prepare(order: usize, key_len: usize, tape_len: usize, output_len: usize) -> Answer
     ensures { outcome result [] ≡ prepare_preview order key_len tape_len output_len }
 {

@@ -1,3 +1,4 @@
+pub mod Answers
 pub mod Decimal
 pub mod Hexadecimal
 pub mod Packing

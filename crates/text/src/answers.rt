@@ -1,5 +1,6 @@
 // Answers of the library, as lines on standard output, with document 01's numbers and words.
-ghost use Rattle.std.specs.Prelude.{◌≤◌};
+ghost use Rattle.std.specs.Prelude.{◌≡◌, ◌≤◌};
+ghost use Rattle.text.specs.Answers as Answers;
 
 use crate::hexadecimal;
 use outcomes::{Answer, Count, Refusal};
@@ -51,7 +52,9 @@ impl fmt::Display for Cause {
 }
 
 // What a call counted, or the cause of its refusal.
-pub fn counted(a: Answer, table: Table) -> Result<Count, Cause> {
+pub fn counted(a: Answer, table: Table) -> Result<Count, Cause>
+    ensures { result ≡ Answers.counted a table }
+{
     a.map_err(|refusal| Cause { refusal, table })
 }
 

@@ -40,6 +40,7 @@ fn byte_at(text: &[u8], i: usize) -> u8
 }
 
 // The bytes of text, which has two digits for each.
+// Kept: places in the text by number. Over a zip with its chunks, out is the iterator's, and no invariant can say what it holds so far.
 pub fn fill(text: &[u8], out: &mut [u8])
     requires { length text.now ≡ length out.old * 2 }
     ensures { out.new ≡ Hexadecimal.bytes text.now (length out.old) }
@@ -64,6 +65,7 @@ fn word_at(text: &[u8], i: usize) -> u32
 }
 
 // The words of text, which has eight digits for each.
+// Kept: as for `fill`; the loops of these two and of `packing::pack` are one line each, and a function that takes that line is no shorter.
 pub fn fill_words(text: &[u8], out: &mut [u32])
     requires { length text.now ≡ length out.old * 8 }
     ensures { out.new ≡ Hexadecimal.words text.now (length out.old) }

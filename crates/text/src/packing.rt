@@ -11,6 +11,7 @@ pub fn word(a: u8, b: u8, c: u8, d: u8) -> u32
 }
 
 // The words of bytes, of which there are four for each.
+// Kept: places in bytes by number. Over a zip with chunks of them, out is the iterator's, and no invariant can say what it holds so far.
 pub fn pack(bytes: &[u8], out: &mut [u32])
     requires { length bytes.now ≡ length out.old * 4 }
     ensures { out.new ≡ Packing.packed bytes.now (length out.old) }
