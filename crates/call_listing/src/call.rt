@@ -1,12 +1,12 @@
 // The listing of a whole call: how its lines are read, the shares of the key and of the block, the key expansion, the rounds.
 ghost use Rattle.std.specs.Prelude.{◌≡◌, ◌+◌, ◌*◌, ◌≤◌};
-ghost use Rattle.lengths.specs.Lengths.{KeySize};
 ghost use Rattle.probing.specs.StringPlaces.{string_count};
 ghost use Rattle.probing.specs.CallPlaces.{call_count};
 ghost use Rattle.call_listing.specs.Walk.{most, with_of};
 
 use crate::lines;
 use gf256::Direction;
+use lengths::key::KeyWords;
 use listing::walk::Walk;
 
 // How the places of a range are ordered.
@@ -54,13 +54,14 @@ fn with_keys(walk: &mut Walk, w: Direction, nk: usize, d: usize)
     crate::rounds::rounds(walk, w, nk, d);
 }
 
-// All places of a call with a key of nk words. Answers with their number.
+// All places of a call with a key of that size. Answers with their number.
 #[tactic(auto, using(crate::proofs::WalkLaws::call_count_parts))]
-pub fn print(w: Direction, nk: usize, d: usize) -> usize
-    requires { (d ≤ 8) × KeySize nk }
-    ensures { result ≡ call_count w nk d }
+pub fn print(w: Direction, key: KeyWords, d: usize) -> usize
+    requires { d ≤ 8 }
+    ensures { result ≡ call_count w key.nk d }
 {
     print_reading(w);
+    let nk = key.nk;
     let mut walk = Walk::new();
     inputs(&mut walk, nk, d);
     crate::key::words(&mut walk, nk, d);

@@ -4,7 +4,7 @@ use command_line::stops::Stop;
 use std::env::Env;
 
 pub fn run<R: Env>(rt: &R) -> Result<(), Stop> {
-    let (order, nk) = orders::served_call(rt, 2)?;
-    listing::tape::print(nk, order);
+    let (order, key) = orders::served_call(rt, 2)?;
+    listing::tape::print(key, order);
     Ok(())
 }

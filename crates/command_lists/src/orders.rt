@@ -1,9 +1,10 @@
 // ORDER and KEYBYTES, where the library serves them.
-ghost use Rattle.std.specs.Prelude.{◌≤◌, IfOk};
-ghost use Rattle.lengths.specs.Lengths.{KeySize};
+ghost use Rattle.std.specs.Prelude.{◌≡◌, ◌*◌, ◌≤◌, IfOk};
 
 use command_line::arguments;
 use command_line::stops::Stop;
+use lengths::key::KeyWords;
+use lengths::sizes;
 use outcomes::Refusal;
 use std::env::Env;
 use text::answers::Cause;
@@ -17,16 +18,11 @@ fn served(order: usize) -> Result<usize, Cause>
     Ok(order)
 }
 
-// How many words a key of that many bytes has.
-fn key_words(size: usize) -> Result<usize, Cause>
-    ensures { IfOk result KeySize }
+// The size of a key of that many bytes.
+fn key_words(size: usize) -> Result<KeyWords, Cause>
+    ensures { IfOk result (λ key. 4 * key.nk ≡ size) }
 {
-    match size {
-        16 => Ok(4),
-        24 => Ok(6),
-        32 => Ok(8),
-        _ => Err(Cause::from(Refusal::Key)),
-    }
+    sizes::key_words(0, size).ok_or(Cause::from(Refusal::Key))
 }
 
 // ORDER, argument i.
@@ -36,9 +32,9 @@ pub fn served_order<R: Env>(rt: &R, i: usize) -> Result<usize, Stop>
     Ok(served(arguments::number(rt, i, "ORDER")?)?)
 }
 
-// ORDER, argument i, and the words of a key of KEYBYTES, the argument behind it. Both are read before either is looked at.
-pub fn served_call<R: Env>(rt: &R, i: usize) -> Result<(usize, usize), Stop>
-    ensures { IfOk result (λ call. (call.0 ≤ 8) × KeySize call.1) }
+// ORDER, argument i, and the size of a key of KEYBYTES, the argument behind it. Both are read before either is looked at.
+pub fn served_call<R: Env>(rt: &R, i: usize) -> Result<(usize, KeyWords), Stop>
+    ensures { IfOk result (λ call. call.0 ≤ 8) }
 {
     let order = arguments::number(rt, i, "ORDER")?;
     let size = arguments::number(rt, i.wrapping_add(1), "KEYBYTES")?;

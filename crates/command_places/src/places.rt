@@ -20,8 +20,8 @@ fn of_box<R: Env>(rt: &R, w: Direction) -> Result<(), Stop> {
 
 fn of_call<R: Env>(rt: &R, w: Direction) -> Result<(), Stop> {
     has_words(arguments::count(rt), 5)?;
-    let (order, nk) = orders::served_call(rt, 3)?;
-    call_listing::call::print(w, nk, order);
+    let (order, key) = orders::served_call(rt, 3)?;
+    call_listing::call::print(w, key, order);
     Ok(())
 }
 

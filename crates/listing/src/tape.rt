@@ -2,9 +2,9 @@
 // prints some lines, or a part of one, and takes the walk over the bytes further. How many bytes a step takes is the library's own number.
 // Bytes run through a call without a gap, so an S-box may begin and end within a word (document 02, wish 6).
 ghost use Rattle.std.specs.Prelude.{◌≤◌};
-ghost use Rattle.lengths.specs.Lengths.{KeySize};
 
 use crate::walk::{Part, Walk};
+use lengths::key::KeyWords;
 
 // A step that takes n bytes.
 fn step(walk: &mut Walk, name: &[u8], n: usize) {
@@ -98,24 +98,24 @@ fn print_need(name: &[u8], bytes: usize) {
 
 // How much the library asks for: in the single call, and in each of the two calls from prepared keys. Then how the lines are read for a decryption,
 // whose rounds FIPS 197 counts down.
-fn print_needs(nk: usize, d: usize)
-    requires { (d ≤ 8) × KeySize nk }
+fn print_needs(key: KeyWords, d: usize)
+    requires { d ≤ 8 }
 {
-    print_need(b"total ", lengths::needs::cipher_need(nk, d));
-    print_need(b"\npreparation ", lengths::needs::schedule_need(nk, d));
-    print_need(b"; rounds ", lengths::needs::encrypted_with_need(nk, d));
+    print_need(b"total ", lengths::needs::cipher_need(key, d));
+    print_need(b"\npreparation ", lengths::needs::schedule_need(key, d));
+    print_need(b"; rounds ", lengths::needs::encrypted_with_need(key, d));
     text::print(
         b"\ndecryption, in a single call only: the same, where round 1 is the first to run and state bytes are those after InvShiftRows\n",
     );
 }
 
-// All S-boxes of a call with a key of nk words, and its needs.
-pub fn print(nk: usize, d: usize)
-    requires { (d ≤ 8) × KeySize nk }
+// All S-boxes of a call with a key of that size, and its needs.
+pub fn print(key: KeyWords, d: usize)
+    requires { d ≤ 8 }
 {
     text::print(b"ranges are in bytes; tape word k has bytes 4*k to 4*k+3, the lowest first\n");
     let mut walk = Walk::new();
-    key_words(&mut walk, nk, d);
-    rounds(&mut walk, nk, d);
-    print_needs(nk, d);
+    key_words(&mut walk, key.nk, d);
+    rounds(&mut walk, key.nk, d);
+    print_needs(key, d);
 }
