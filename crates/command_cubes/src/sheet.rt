@@ -3,7 +3,7 @@ use command_line::stops::Stop;
 use text::answers;
 use text::answers::Table;
 
-// Kept: the command `sheet` has the same steps, with a size, a call and a listing of its own. One function that takes all three is no shorter than they.
+// Kept: the command `sheet` has the same steps, with a size, a call and a listing of its own. A function that takes all three is no shorter.
 pub fn run(order: usize, shares: &[u8], tape: &[u32]) -> Result<(), Stop> {
     let mut room = io::buffer();
     let sheet = &mut room[..cubes::cube::cube_size(order)];

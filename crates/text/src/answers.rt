@@ -1,4 +1,4 @@
-// Answers of the library, as lines on standard output, with document 01's numbers and words.
+// Answers of the library, in document 01's numbers and words: what came of a call, and what is printed of one that was carried through.
 ghost use Rattle.std.specs.Prelude.{◌≡◌, ◌≤◌};
 ghost use Rattle.text.specs.Answers as Answers;
 

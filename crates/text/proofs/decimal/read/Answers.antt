@@ -1,5 +1,5 @@
 -- `text::decimal::read` meets its contract. Assumes nothing.
-use mathlib.Core.Path.{sym, ◌∙◌}
+use mathlib.Core.Path.{◌∙◌}
 use native.Mathlib.Omega.{arith}
 use Rattle.std.proofs.lemmas.Bool.Decides.{nat_tests}
 use Rattle.text.proofs.DecimalLaws.{read_first, read_empty, read_more, read_none, read_all}
