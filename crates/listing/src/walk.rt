@@ -1,4 +1,4 @@
-// Where a walk over the S-boxes of a call stands, and how each of them is named. The listing of the tape and that of the places of a call both walk so.
+// Where a walk over the S-boxes of a call stands, and how each of them is named: for the listing of the tape, and for that of a call's places.
 ghost use Rattle.std.specs.Prelude.{◌≡◌};
 
 // What an S-box is of: a word of the expanded key, or a round.
