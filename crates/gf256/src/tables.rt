@@ -8,8 +8,7 @@ ghost use Rattle.gf256.specs.Field;
 ghost use Rattle.gf256.specs.Exponents.{raised_to};
 ghost use Rattle.gf256.specs.Tables.{LogTable, AntilogTable};
 
-use crate::Exponent;
-use crate::powers;
+use crate::{Exponent, powers};
 
 type Logs = [u16; 256];
 

@@ -78,14 +78,7 @@ fn product_row(
 }
 
 // All pairs, in the order of the draws, into the sums, which have their starts. Answers with how many bytes were drawn.
-fn take_pairs(
-    tables: &Tables,
-    d: usize,
-    a: &[u8],
-    b: &[u8],
-    tape: &[u8],
-    sums: &mut [u8],
-) -> usize
+fn take_pairs(tables: &Tables, d: usize, a: &[u8], b: &[u8], tape: &[u8], sums: &mut [u8]) -> usize
     requires { FactorsFit d a.now b.now tape.now × (sums.old ≡ Steps.starts a.now b.now (suc d)) }
     ensures { (result ≡ Place.product_need d)
         × (sums.new ≡ Place.product Field.times d a.now b.now tape.now) }

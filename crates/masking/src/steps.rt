@@ -90,10 +90,10 @@ fn back_row(
 #[derive(Clone, Copy)]
 pub struct Rows {
     pub upper: [u8; 8], // a_i · b_j, the product above the diagonal
-    pub half: [u8; 8],  // r(i, j) XOR a_i · b_j
+    pub half: [u8; 8], // r(i, j) XOR a_i · b_j
     pub lower: [u8; 8], // a_j · b_i, the product below it
-    pub back: [u8; 8],  // r(j, i)
-    pub own: [u8; 8],   // share i's running sums, one after each draw
+    pub back: [u8; 8], // r(j, i)
+    pub own: [u8; 8], // share i's running sums, one after each draw
 }
 
 impl Rows {
@@ -130,7 +130,16 @@ pub fn take_row(
         × (sums.new ≡ Steps.pairs_taken a.now b.now tape.now i w sums.old) }
 {
     let drawn = half_row(tables, i, w, a, b, tape, &mut rows.upper, &mut rows.half);
-    back_row(tables, i, w, a, b, &rows.half, &mut rows.lower, &mut rows.back);
+    back_row(
+        tables,
+        i,
+        w,
+        a,
+        b,
+        &rows.half,
+        &mut rows.lower,
+        &mut rows.back,
+    );
     pairs::rows::sum_row(i, w, tape, &rows.back, &mut rows.own, sums);
     drawn
 }

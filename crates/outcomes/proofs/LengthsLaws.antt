@@ -101,9 +101,10 @@ share_length_cases P x y z = one_of-each {P = P} (also x (also y (also z none)))
 
 -- what the code finds, by number
 pub share_length-some : (n b l : ℕ) → listed_length key_lengths n b ≡ Some l → (share_length n b ≡ l) × (0 < l)
-share_length-some n b l e =
-    (listed_length-some key_lengths n b l e,
-    listed_length-each {P = λ k. 0 < k} (also (omega arith) (also (omega arith) (also (omega arith) none))) n b l e)
+share_length-some n b l e = (
+  listed_length-some key_lengths n b l e,
+  listed_length-each {P = λ k. 0 < k} (also (omega arith) (also (omega arith) (also (omega arith) none))) n b l e,
+)
 
 pub share_length-none : (n b : ℕ) → listed_length key_lengths n b ≡ None → share_length n b ≡ 0
 share_length-none = listed_length-none key_lengths

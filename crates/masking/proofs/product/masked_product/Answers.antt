@@ -25,7 +25,7 @@ product_on_words-requires c =
     in
     let h = factors_through _ v.order _ _ _ _ _ _ _ e c.in_ok-factors_answer.was in (
       record { order = h.order; left = h.left; right = h.right; drawn = words_reach _ v.tape.now h.drawn },
-      h.output
+      h.output,
     )
 
 pub returns : goal.returns

@@ -3,7 +3,7 @@ use mathlib.Core.Path.{refl, ap, sym, ◌∙◌}
 use Prim.Native.Nat.{ℕ, ◌+◌, ◌≤◌}
 use native.Mathlib.Numerals.{add-one}
 use native.Mathlib.Omega.{arith}
-use borrow.Author.Tests.{eq-eqb, ne_eqb, lt-ltb, le-ltb}
+use borrow.Author.Tests.{eq-eqb, ne_eqb, lt-ltb}
 use Rattle.outcomes.specs.Outcome.{share_length}
 use Rattle.std.specs.Prelude.{Err}
 use Rattle.outcomes.proofs.OutcomeLaws.{handed_up, answered_here, answered_next, answered-none, served_bounds}

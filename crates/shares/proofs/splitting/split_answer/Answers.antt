@@ -4,7 +4,7 @@ use Prim.Native.Nat.{ℕ, ◌+◌, ◌*◌, ◌≤◌}
 use native.Mathlib.Nat.{mul-le-mul}
 use native.Mathlib.Numerals.{add-one}
 use native.Mathlib.Omega.{arith}
-use borrow.Author.Tests.{eq-eqb, ne_eqb, lt-ltb, le-ltb}
+use borrow.Author.Tests.{eq-eqb, ne_eqb, lt-ltb}
 use Rattle.std.specs.Prelude.{Err}
 use Rattle.outcomes.proofs.OutcomeLaws.{handed_up, answered_here, answered_next, answered-none, served_bounds, lt_reaches, le_reaches}
 use Rattle.outcomes.proofs.LengthsLaws.{share_length_le, share_length-found, share_length-missing}
