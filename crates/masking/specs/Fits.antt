@@ -19,6 +19,13 @@ pub record RowFits (i w : ℕ) (a b tape sums : List ℕ) : Type 0 where
   pub drawn : w ≤ length tape
   pub summed : i + 1 + w ≤ length sums
 
+-- the four rows that take the bytes of w pairs
+pub record RowsFit (w : ℕ) (upper half lower back : List ℕ) : Type 0 where
+  pub uppers : w ≤ length upper
+  pub halves : w ≤ length half
+  pub lowers : w ≤ length lower
+  pub backs : w ≤ length back
+
 -- one half of those pairs: a row is read, the row of the products is written, and that of what they were taken into
 pub record HalfFits (i w : ℕ) (a b read products taken : List ℕ) : Type 0 where
   pub few : i + 1 + w ≤ 9

@@ -6,6 +6,7 @@
 #![tactic(auto)]
 
 pub mod product;
+pub mod rows;
 pub mod steps;
 
 pub use product::masked_product;

@@ -9,7 +9,7 @@ ghost use Rattle.masking.specs.Steps;
 ghost use Rattle.masking.specs.Fits.{FactorsFit, RowFits};
 ghost use Rattle.masking.specs.Calls.{two_fit, factor_tests, product_outcome};
 
-use crate::steps::Rows;
+use crate::rows::Rows;
 use gf256::Tables;
 use outcomes::{Answer, Count, Refusal};
 
@@ -73,8 +73,7 @@ fn product_row(
     ensures { (result ≡ w)
         × (sums.new ≡ Steps.pairs_taken a.now b.now tape.now i w sums.old) }
 {
-    let mut rows = Rows::new();
-    crate::steps::take_row(tables, i, w, a, b, tape, &mut rows, sums)
+    Rows::new().take(tables, i, w, a, b, tape, sums)
 }
 
 // All pairs, in the order of the draws, into the sums, which have their starts. Answers with how many bytes were drawn.

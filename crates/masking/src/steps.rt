@@ -19,7 +19,7 @@ ghost use Rattle.xor.specs.Running.{owns};
 ghost use Rattle.isw.specs.Place as Place;
 ghost use Rattle.xor.specs.Writes.{front};
 ghost use Rattle.masking.specs.Steps;
-ghost use Rattle.masking.specs.Fits.{RowFits, HalfFits};
+ghost use Rattle.masking.specs.Fits.{RowFits, RowsFit, HalfFits};
 
 use gf256::Tables;
 
@@ -86,30 +86,9 @@ fn back_row(
     }
 }
 
-// The bytes of a row's pairs, one row of memory for each step that leaves them; there are at most 8 pairs.
-#[derive(Clone, Copy)]
-pub struct Rows {
-    pub upper: [u8; 8], // a_i · b_j, the product above the diagonal
-    pub half: [u8; 8], // r(i, j) XOR a_i · b_j
-    pub lower: [u8; 8], // a_j · b_i, the product below it
-    pub back: [u8; 8], // r(j, i)
-    pub own: [u8; 8], // share i's running sums, one after each draw
-}
-
-impl Rows {
-    pub fn new() -> Rows {
-        Rows {
-            upper: [0; 8],
-            half: [0; 8],
-            lower: [0; 8],
-            back: [0; 8],
-            own: [0; 8],
-        }
-    }
-}
-
 // The pairs of row i with the w shares behind it, whose draws stand at the front of the tape, and then its running sums. The bytes of each pair are
-// left over the fronts of the rows. Answers with how many bytes were drawn.
+// left over the fronts of four rows: a_i · b_j, the product above the diagonal; r(i, j) XOR a_i · b_j; a_j · b_i, the one below it; and r(j, i).
+// Answers with how many bytes were drawn.
 pub fn take_row(
     tables: &Tables,
     i: usize,
@@ -117,30 +96,26 @@ pub fn take_row(
     a: &[u8],
     b: &[u8],
     tape: &[u8],
-    rows: &mut Rows,
+    upper: &mut [u8],
+    half: &mut [u8],
+    lower: &mut [u8],
+    back: &mut [u8],
+    own: &mut [u8],
     sums: &mut [u8],
 ) -> usize
-    requires { RowFits i w a.now b.now tape.now sums.old }
+    requires { RowFits i w a.now b.now tape.now sums.old × RowsFit w upper.old half.old lower.old back.old
+        × (w ≤ length own.old) }
     ensures { (result ≡ w)
-        × (rows.new.upper ≡ front (tab (Steps.uppers a.now b.now i) w) rows.old.upper)
-        × (rows.new.half ≡ front (tab (Steps.halves a.now b.now tape.now i) w) rows.old.half)
-        × (rows.new.lower ≡ front (tab (Steps.lowers a.now b.now i) w) rows.old.lower)
-        × (rows.new.back ≡ front (tab (Steps.backs a.now b.now tape.now i) w) rows.old.back)
-        × (rows.new.own ≡ front (owns tape.now sums.old i w) rows.old.own)
+        × (upper.new ≡ front (tab (Steps.uppers a.now b.now i) w) upper.old)
+        × (half.new ≡ front (tab (Steps.halves a.now b.now tape.now i) w) half.old)
+        × (lower.new ≡ front (tab (Steps.lowers a.now b.now i) w) lower.old)
+        × (back.new ≡ front (tab (Steps.backs a.now b.now tape.now i) w) back.old)
+        × (own.new ≡ front (owns tape.now sums.old i w) own.old)
         × (sums.new ≡ Steps.pairs_taken a.now b.now tape.now i w sums.old) }
 {
-    let drawn = half_row(tables, i, w, a, b, tape, &mut rows.upper, &mut rows.half);
-    back_row(
-        tables,
-        i,
-        w,
-        a,
-        b,
-        &rows.half,
-        &mut rows.lower,
-        &mut rows.back,
-    );
-    pairs::rows::sum_row(i, w, tape, &rows.back, &mut rows.own, sums);
+    let drawn = half_row(tables, i, w, a, b, tape, upper, half);
+    back_row(tables, i, w, a, b, half, lower, back);
+    pairs::rows::sum_row(i, w, tape, back, own, sums);
     drawn
 }
 

@@ -13,7 +13,7 @@ ghost use Rattle.sheet_parts.specs.Parts.{bytes_of, five_rows, row_bytes, starts
 
 use crate::Pair;
 use gf256::Tables;
-use masking::steps::Rows;
+use masking::rows::Rows;
 
 // The five bytes of a pair, over the front of out. It is a call of its own in the built library too: inlined, the loop over pairs becomes one over
 // vectors, in whose registers bytes of two places are ORed.
@@ -93,7 +93,7 @@ pub fn sheet_row(
         (at sums.new) table.old w) }
 {
     let mut rows = Rows::new();
-    let drawn = masking::steps::take_row(tables, i, w, a, b, tape, &mut rows, sums);
+    let drawn = rows.take(tables, i, w, a, b, tape, sums);
     put_row(w, tape, &rows, out);
     put_sums(i, w, &rows.own, sums, table);
     drawn

@@ -2,4 +2,4 @@
 use Rattle.masking.proofs.product.product_row.Goals as goal
 
 pub returns : goal.returns
-returns c = let t = c.take_row.ensures in (t.0, t.6)
+returns c = let t = c.take.ensures in (t.0, t.6)

@@ -11,7 +11,7 @@ use Rattle.sheet_parts.proofs.parts.sheet_row.Goals as goal
 pub returns : goal.returns
 returns c =
     let v = c.args in
-    let t = c.take_row-drawn.ensures in
+    let t = c.take-drawn.ensures in
     let f = five_rows-right _ _ _ _ _ v.a.now v.b.now v.i v.w _ _ _ _ t.1 t.2 t.3 t.4 in (
       t.0,
       c.put_row.ensures ∙ ap (λ (l : List ℕ). front l v.out.now) f,
