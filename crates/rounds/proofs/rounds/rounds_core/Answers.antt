@@ -18,7 +18,6 @@ run_rounds-requires c =
     let a = c.args in
     let fit = c.requires in
     record {
-      order = fit.order;
       small = omega arith;
       round = omega arith;
       keyed = keys_length a.nk a.d _ fit.keyed;

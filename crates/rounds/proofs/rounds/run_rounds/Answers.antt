@@ -41,7 +41,6 @@ make_round-at-requires c =
     let whole = rounds-whole-need a.which a.d a.nr (parts (suc a.d) a.m a.keys.now) in
     let room = buffered_room l.invariant.3 (omega arith) in
     record {
-      order = fit.order;
       round = omega (arith, fit.round, c.key_number-r.ensures.1);
       keyed = fit.keyed;
       drawn = omega (arith, room, whole, fit.drawn, length-bytes a.tape.now, length-bytes_rest l.at a.tape.now);

@@ -18,7 +18,6 @@ expand-requires c =
     let v = c.args in
     let fit = c.requires in
     record {
-      order = fit.order;
       some = fit.some;
       past = omega arith;
       small = omega arith;

@@ -15,7 +15,6 @@ turned_temp-requires c =
     let fit = c.requires in
     let e = kind_turned v.nk v.i (omega arith) in
     record {
-      order = fit.order;
       some = some_turn v.nk v.i fit.some fit.past;
       long = fit.long;
       drawn = need_turned v.nk v.d v.i _ e fit.drawn;
