@@ -20,7 +20,7 @@ use Rattle.tape_words.specs.Words.{bytes_of, words_for}
 use Rattle.tape_words.proofs.WordsLaws.{reach_words}
 use Rattle.tape_words.proofs.FrontLaws.{unpack_fits, made_on_words}
 use Rattle.masking.specs.Fits.{FactorsFit}
-use Rattle.masking.specs.Calls.{two_fit, factor_lengths}
+use Rattle.masking.specs.Calls.{two_fit, factor_served}
 
 pub two_fit_lengths : (d a b : ℕ) → two_fit d a b ≡ true → (a ≡ suc d) × (b ≡ suc d)
 unfolding two_fit
@@ -30,8 +30,8 @@ two_fit_lengths d a b e =
 
 -- the room that was found
 pub factors_answered : {room' : ℕ} (room d a b t o : ℕ) (k : Count) (q : Answer) → room' ≡ room
-    → q ≡ answered (factor_lengths room' d a b t o) k → q ≡ answered (factor_lengths room d a b t o) k
-factors_answered room d a b t o k q same e = e ∙ ap (λ (n : ℕ). answered (factor_lengths n d a b t o) k) same
+    → q ≡ answered (factor_served room' d a b t o) k → q ≡ answered (factor_served room d a b t o) k
+factors_answered room d a b t o k q same e = e ∙ ap (λ (n : ℕ). answered (factor_served n d a b t o) k) same
 
 -- a call that is let through
 pub record FactorsThrough (room d a b t o : ℕ) : Type 0 where
@@ -40,12 +40,12 @@ pub record FactorsThrough (room d a b t o : ℕ) : Type 0 where
   pub output : o ≡ room
   pub drawn : words_for (product_need d) ≤ t
 
-factors_passed : (room d a b t o : ℕ) → Passed (factor_lengths room d a b t o) → FactorsThrough room d a b t o
+factors_passed : (room d a b t o : ℕ) → Passed (factor_served room d a b t o) → FactorsThrough room d a b t o
 factors_passed room d a b t o (i and r and n and p) =
     let f = two_fit_lengths d a b i in
     record { left = f.0; right = f.1; output = eqb-true o room r; drawn = reaches_le t _ n }
 
-pub factors_through : (room d a b t o : ℕ) (q : Answer) (k c : Count) → q ≡ answered (factor_lengths room d a b t o) k → q ≡ Ok c
+pub factors_through : (room d a b t o : ℕ) (q : Answer) (k c : Count) → q ≡ answered (factor_served room d a b t o) k → q ≡ Ok c
     → FactorsThrough room d a b t o
 factors_through room d a b t o q k c e f = factors_passed room d a b t o (answered-taken _ k c (sym e ∙ f)).0
 

@@ -7,7 +7,7 @@ ghost use Rattle.outcomes.specs.Outcome.{outcome, answered, took};
 ghost use Rattle.tape_words.specs.Words.{bytes_of, words_for};
 ghost use Rattle.masking.specs.Steps;
 ghost use Rattle.masking.specs.Fits.{FactorsFit, RowFits};
-ghost use Rattle.masking.specs.Calls.{two_fit, factor_lengths, product_outcome};
+ghost use Rattle.masking.specs.Calls.{two_fit, factor_served, product_outcome};
 
 use crate::steps::Rows;
 use gf256::Tables;
@@ -40,7 +40,7 @@ pub fn factors_answer(
     tape: usize,
     output: usize,
 ) -> Answer
-    ensures { result ≡ answered (factor_lengths room d left right tape output) (took (words_for (Place.product_need d))) }
+    ensures { result ≡ answered (factor_served room d left right tape output) (took (words_for (Place.product_need d))) }
 {
     if !two_fit(d, left, right) {
         return Err(Refusal::Input);

@@ -12,31 +12,31 @@ use Rattle.std.specs.Prelude.{Ok}
 use Rattle.outcomes.specs.Outcome.{Test, test, answered, took, served, reaches, share_length}
 use Rattle.tape_words.specs.Words.{words_for}
 use Rattle.shares.specs.Strings.{split_need}
-use Rattle.shares.specs.Calls.{input_lengths, input_tests, split_lengths, split_tests, join_lengths}
+use Rattle.shares.specs.Calls.{input_served, input_tests, split_served, split_tests, join_served}
 use Rattle.outcomes.proofs.OutcomeLaws.{Passed, ◌and◌, others_passed, answered-taken, reaches_le}
 
 -- ---- the shares of one byte
 
 -- what the tests of a call answer, by its own need
 pub input-answered : {bytes : ℕ} (room need d x t o : ℕ) (a : Answer) → bytes ≡ need
-    → a ≡ answered (input_lengths room (words_for bytes) d x t o) (took (words_for bytes))
-    → a ≡ answered (input_lengths room (words_for need) d x t o) (took (words_for need))
+    → a ≡ answered (input_served room (words_for bytes) d x t o) (took (words_for bytes))
+    → a ≡ answered (input_served room (words_for need) d x t o) (took (words_for need))
 input-answered room need d x t o a same e =
-    e ∙ ap (λ (n : ℕ). answered (input_lengths room (words_for n) d x t o) (took (words_for n))) same
+    e ∙ ap (λ (n : ℕ). answered (input_served room (words_for n) d x t o) (took (words_for n))) same
 
 pub record InputThrough (room need d x t o : ℕ) : Type 0 where
   pub input : x ≡ suc d
   pub output : o ≡ room
   pub drawn : need ≤ t
 
-input-passed_lem : (room need d x t o : ℕ) → Passed (input_lengths room need d x t o) → InputThrough room need d x t o
+input-passed_lem : (room need d x t o : ℕ) → Passed (input_served room need d x t o) → InputThrough room need d x t o
 input-passed_lem room need d x t o (i and r and n and p) =
     record { input = eqb-true x (suc d) i; output = eqb-true o room r; drawn = reaches_le t need n }
 
 pub input-passed : (room need d x t o : ℕ) → Passed (input_tests room need d x t o) → InputThrough room need d x t o
 input-passed room need d x t o p = input-passed_lem room need d x t o (others_passed p)
 
-pub input_through : (room need d x t o : ℕ) (a : Answer) (c : Count) → a ≡ answered (input_lengths room need d x t o) (took need) → a ≡ Ok c
+pub input_through : (room need d x t o : ℕ) (a : Answer) (c : Count) → a ≡ answered (input_served room need d x t o) (took need) → a ≡ Ok c
     → InputThrough room need d x t o
 input_through room need d x t o a c e f = input-passed_lem room need d x t o (answered-taken _ _ c (sym e ∙ f)).0
 
@@ -48,7 +48,7 @@ split_tests_lem n l d t o = test Input (ltb 0 l) ∷ test Output (eqb o (suc d *
 
 pub split-answered : (n l d x t o : ℕ) (a : Answer) → l ≡ share_length 1 x → n ≡ words_for (d * l)
     → a ≡ answered (split_tests_lem n l d t o) (took n)
-    → a ≡ answered (split_lengths d x t o) (took (words_for (split_need d (share_length 1 x))))
+    → a ≡ answered (split_served d x t o) (took (words_for (split_need d (share_length 1 x))))
 unfolding split_need
 split-answered n l d x t o a e q f =
     f
@@ -60,7 +60,7 @@ abbrev join_tests_lem : (l d o : ℕ) → List Test
 join_tests_lem l d o = test Input (ltb 0 l) ∷ test Output (eqb o l) ∷ []
 
 pub join_answered : (l d x o : ℕ) (a : Answer) → l ≡ share_length (suc d) x → a ≡ answered (join_tests_lem l d o) (took 0)
-    → a ≡ answered (join_lengths d x o) (took 0)
+    → a ≡ answered (join_served d x o) (took 0)
 join_answered l d x o a e f = f ∙ ap (λ (n : ℕ). answered (join_tests_lem n d o) (took 0)) e
 
 pub record SplitThrough (d x t o : ℕ) : Type 0 where
@@ -68,23 +68,23 @@ pub record SplitThrough (d x t o : ℕ) : Type 0 where
   pub output : o ≡ suc d * share_length 1 x
   pub drawn : words_for (split_need d (share_length 1 x)) ≤ t
 
-split-passed_lem : (d x t o : ℕ) → Passed (split_lengths d x t o) → SplitThrough d x t o
+split-passed_lem : (d x t o : ℕ) → Passed (split_served d x t o) → SplitThrough d x t o
 split-passed_lem d x t o (i and r and n and p) =
     record { input = ltb-true 0 (share_length 1 x) i; output = eqb-true o _ r; drawn = reaches_le t _ n }
 
 pub split-passed : (d x t o : ℕ) → Passed (split_tests d x t o) → SplitThrough d x t o
 split-passed d x t o p = split-passed_lem d x t o (others_passed p)
 
-pub split_through : (d x t o : ℕ) (a : Answer) (k c : Count) → a ≡ answered (split_lengths d x t o) k → a ≡ Ok c → SplitThrough d x t o
+pub split_through : (d x t o : ℕ) (a : Answer) (k c : Count) → a ≡ answered (split_served d x t o) k → a ≡ Ok c → SplitThrough d x t o
 split_through d x t o a k c e f = split-passed_lem d x t o (answered-taken _ k c (sym e ∙ f)).0
 
 pub record JoinThrough (d x o : ℕ) : Type 0 where
   pub input : 0 < share_length (suc d) x
   pub output : o ≡ share_length (suc d) x
 
-join_passed : (d x o : ℕ) → Passed (join_lengths d x o) → JoinThrough d x o
+join_passed : (d x o : ℕ) → Passed (join_served d x o) → JoinThrough d x o
 join_passed d x o (i and r and p) =
     record { input = ltb-true 0 (share_length (suc d) x) i; output = eqb-true o _ r }
 
-pub join_through : (d x o : ℕ) (a : Answer) (k c : Count) → a ≡ answered (join_lengths d x o) k → a ≡ Ok c → JoinThrough d x o
+pub join_through : (d x o : ℕ) (a : Answer) (k c : Count) → a ≡ answered (join_served d x o) k → a ≡ Ok c → JoinThrough d x o
 join_through d x o a k c e f = join_passed d x o (answered-taken _ k c (sym e ∙ f)).0

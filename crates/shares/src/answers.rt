@@ -3,7 +3,7 @@ ghost use Rattle.std.specs.Prelude.{◌≡◌, suc, ◌*◌, ◌≤◌};
 ghost use Rattle.xor.specs.Pairs.{pair_count};
 ghost use Rattle.outcomes.specs.Outcome.{answered, took};
 ghost use Rattle.tape_words.specs.Words.{words_for};
-ghost use Rattle.shares.specs.Calls.{input_lengths};
+ghost use Rattle.shares.specs.Calls.{input_served};
 
 use outcomes::{Answer, Count, Order, Refusal};
 
@@ -17,7 +17,7 @@ pub fn input_answer(
     output: usize,
 ) -> Answer
     requires { each ≤ 6 }
-    ensures { result ≡ answered (input_lengths room (words_for (each * pair_count (suc d))) d input tape output)
+    ensures { result ≡ answered (input_served room (words_for (each * pair_count (suc d))) d input tape output)
         (took (words_for (each * pair_count (suc d)))) }
 {
     if input != d.shares() {
@@ -36,7 +36,7 @@ pub fn input_answer(
 // The same where it puts out shares of one byte: a refresh, which draws one byte for each pair, and an S-box, which draws six.
 pub fn byte_answer(each: usize, d: Order, input: usize, tape: usize, output: usize) -> Answer
     requires { each ≤ 6 }
-    ensures { result ≡ answered (input_lengths (suc d) (words_for (each * pair_count (suc d))) d input tape output)
+    ensures { result ≡ answered (input_served (suc d) (words_for (each * pair_count (suc d))) d input tape output)
         (took (words_for (each * pair_count (suc d)))) }
 {
     input_answer(each, d.shares(), d, input, tape, output)

@@ -3,7 +3,7 @@ ghost use Rattle.std.specs.Prelude.{◌≡◌, suc, ◌*◌, ◌≤◌, length};
 ghost use Rattle.xor.specs.Sums.{xors};
 ghost use Rattle.outcomes.specs.Outcome.{outcome, answered, took};
 ghost use Rattle.shares.specs.Strings.{joined_string, parts};
-ghost use Rattle.shares.specs.Calls.{join_lengths, join_outcome};
+ghost use Rattle.shares.specs.Calls.{join_served, join_outcome};
 
 use outcomes::{Answer, Count, Order, Refusal, asked};
 
@@ -35,7 +35,7 @@ fn join_core(d: Order, l: usize, input: &[u8], output: &mut [u8])
 
 // The tests of a call behind that of its order, on the lengths of its buffers.
 fn join_answer(d: Order, input: usize, output: usize) -> Answer
-    ensures { result ≡ answered (join_lengths d input output) (took 0) }
+    ensures { result ≡ answered (join_served d input output) (took 0) }
 {
     let l = asked::share_length(d.shares(), input).ok_or(Refusal::Input)?;
     if output != l {

@@ -6,7 +6,7 @@ ghost use Rattle.outcomes.specs.Outcome.{outcome, answered, took, share_length};
 ghost use Rattle.tape_words.specs.Words.{bytes_of, words_for};
 ghost use Rattle.shares.specs.Strings.{joined_string, parts, laid, split, split_need};
 ghost use Rattle.shares.specs.Fits.{SplitFits};
-ghost use Rattle.shares.specs.Calls.{split_lengths, split_outcome};
+ghost use Rattle.shares.specs.Calls.{split_served, split_outcome};
 
 use outcomes::{Answer, Count, Order, Refusal, asked};
 
@@ -36,7 +36,7 @@ fn split_core(d: Order, input: &[u8], tape: &[u8], output: &mut [u8]) -> usize
 
 // The tests of a call behind that of its order, on the lengths of its buffers.
 fn split_answer(d: Order, input: usize, tape: usize, output: usize) -> Answer
-    ensures { result ≡ answered (split_lengths d input tape output) (took (words_for (split_need d (share_length 1 input)))) }
+    ensures { result ≡ answered (split_served d input tape output) (took (words_for (split_need d (share_length 1 input)))) }
 {
     let l = asked::share_length(1, input).ok_or(Refusal::Input)?;
     if output != d.shares() * l {

@@ -33,7 +33,7 @@ sub_word-requires c =
     let v = c.args in
     let fit = c.requires in
     let e = kind_subbed v.nk v.i (omega arith) (omega arith) in
-    (fit.order, fit.long, need_subbed v.nk v.d v.i _ e fit.drawn)
+    (fit.long, need_subbed v.nk v.d v.i _ e fit.drawn)
 
 pub returns-then-left-eq4 : goal.returns-then-left-eq4
 returns-then-left-eq4 c =
