@@ -12,7 +12,7 @@ pub fn prepare(order: usize, key: &[u8], tape: &[u32], output: &mut [u8]) -> Ans
     ensures { outcome result output.new ≡ prepare_outcome order key.now tape.now output.old }
 {
     let d = Order::served(order)?;
-    lengths::answers::preparation_answer(d, key.len(), tape.len(), output.len())?;
+    lengths::answers::preparation_tested(d, key.len(), tape.len(), output.len())?;
     let size = sizes::key_words(d, key.len()).unwrap();
     let tables = Tables::new();
     Ok(Count {
@@ -32,7 +32,7 @@ pub fn encrypt_prepared(
         ≡ encrypt_prepared_outcome order prepared.now input.now tape.now output.old }
 {
     let d = Order::served(order)?;
-    lengths::answers::prepared_answer(
+    lengths::answers::prepared_tested(
         d,
         prepared.len(),
         input.len(),

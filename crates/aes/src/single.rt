@@ -85,7 +85,7 @@ fn call(
         ≡ single_outcome which order key.now input.now tape.now output.old }
 {
     let d = Order::served(order)?;
-    lengths::answers::single_answer(
+    lengths::answers::single_tested(
         d,
         key.len(),
         input.len(),

@@ -96,7 +96,7 @@ pub fn cube_sheet(order: usize, input: &[u8], tape: &[u32], output: &mut [u8]) -
         ≡ cube_sheet_outcome order input.now tape.now output.old }
 {
     let d = Order::served(order)?;
-    shares::answers::input_answer(
+    shares::answers::input_tested(
         2,
         cube_count(d),
         d,

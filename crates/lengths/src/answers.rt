@@ -6,7 +6,7 @@ ghost use Rattle.outcomes.specs.Outcome.{answered, took};
 ghost use Rattle.tape_words.specs.Words.{words_for};
 ghost use Rattle.cipher.specs.Cipher.{schedule_need, encrypted_with_need, cipher_need};
 ghost use Rattle.lengths.specs.Lengths.{key_words, prepared_words};
-ghost use Rattle.lengths.specs.Previews.{block_tests, single_served, preparation_served, prepared_served};
+ghost use Rattle.lengths.specs.Previews.{block_tests, single_tests, single_served, preparation_tests, preparation_served, prepared_tests, prepared_served};
 
 use crate::{needs, sizes};
 use outcomes::{Answer, Count, Order, Refusal};
@@ -29,7 +29,7 @@ fn block_answer(need: usize, d: Order, input: usize, tape: usize, output: usize)
 }
 
 // The tests of an encryption or decryption by a single call.
-pub fn single_answer(d: Order, key: usize, input: usize, tape: usize, output: usize) -> Answer
+pub fn single_tested(d: Order, key: usize, input: usize, tape: usize, output: usize) -> Answer
     ensures { result ≡ answered (single_served d key input tape output) (took (words_for (cipher_need (key_words d key) d))) }
 {
     let size = sizes::key_words(d, key).ok_or(Refusal::Key)?;
@@ -38,7 +38,7 @@ pub fn single_answer(d: Order, key: usize, input: usize, tape: usize, output: us
 }
 
 // The tests of an encryption from prepared keys.
-pub fn prepared_answer(
+pub fn prepared_tested(
     d: Order,
     prepared: usize,
     input: usize,
@@ -55,7 +55,7 @@ pub fn prepared_answer(
 }
 
 // The tests of a preparation. It has no input.
-pub fn preparation_answer(d: Order, key: usize, tape: usize, output: usize) -> Answer
+pub fn preparation_tested(d: Order, key: usize, tape: usize, output: usize) -> Answer
     ensures { result ≡ answered (preparation_served d key tape output) (took (words_for (schedule_need (key_words d key) d))) }
 {
     let size = sizes::key_words(d, key).ok_or(Refusal::Key)?;
@@ -67,4 +67,34 @@ pub fn preparation_answer(d: Order, key: usize, tape: usize, output: usize) -> A
         return Err(Refusal::Tape);
     }
     Ok(Count { taken: words })
+}
+
+// The same three from the raw order, which is tested first.
+pub fn single_answer(order: usize, key: usize, input: usize, tape: usize, output: usize) -> Answer
+    ensures { result ≡ answered (single_tests order key input tape output) (took (words_for (cipher_need (key_words order key) order))) }
+{
+    let d = Order::served(order)?;
+    single_tested(d, key, input, tape, output)
+}
+
+pub fn prepared_answer(
+    order: usize,
+    prepared: usize,
+    input: usize,
+    tape: usize,
+    output: usize,
+) -> Answer
+    ensures { result
+        ≡ answered (prepared_tests order prepared input tape output)
+        (took (words_for (encrypted_with_need (prepared_words order prepared) order))) }
+{
+    let d = Order::served(order)?;
+    prepared_tested(d, prepared, input, tape, output)
+}
+
+pub fn preparation_answer(order: usize, key: usize, tape: usize, output: usize) -> Answer
+    ensures { result ≡ answered (preparation_tests order key tape output) (took (words_for (schedule_need (key_words order key) order))) }
+{
+    let d = Order::served(order)?;
+    preparation_tested(d, key, tape, output)
 }

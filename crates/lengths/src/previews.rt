@@ -5,7 +5,7 @@ ghost use Rattle.outcomes.specs.Outcome.{outcome};
 ghost use Rattle.lengths.specs.Previews.{encrypt_preview, decrypt_preview, prepare_preview, encrypt_prepared_preview};
 
 use crate::answers;
-use outcomes::{Answer, Order};
+use outcomes::Answer;
 
 pub fn preview_encrypt(
     order: usize,
@@ -16,8 +16,7 @@ pub fn preview_encrypt(
 ) -> Answer
     ensures { outcome result [] ≡ encrypt_preview order key_len input_len tape_len output_len }
 {
-    let d = Order::served(order)?;
-    answers::single_answer(d, key_len, input_len, tape_len, output_len)
+    answers::single_answer(order, key_len, input_len, tape_len, output_len)
 }
 
 pub fn preview_decrypt(
@@ -29,16 +28,14 @@ pub fn preview_decrypt(
 ) -> Answer
     ensures { outcome result [] ≡ decrypt_preview order key_len input_len tape_len output_len }
 {
-    let d = Order::served(order)?;
-    answers::single_answer(d, key_len, input_len, tape_len, output_len)
+    answers::single_answer(order, key_len, input_len, tape_len, output_len)
 }
 
 // It has no input, and so never answers Refused(Input).
 pub fn preview_prepare(order: usize, key_len: usize, tape_len: usize, output_len: usize) -> Answer
     ensures { outcome result [] ≡ prepare_preview order key_len tape_len output_len }
 {
-    let d = Order::served(order)?;
-    answers::preparation_answer(d, key_len, tape_len, output_len)
+    answers::preparation_answer(order, key_len, tape_len, output_len)
 }
 
 pub fn preview_encrypt_prepared(
@@ -50,6 +47,5 @@ pub fn preview_encrypt_prepared(
 ) -> Answer
     ensures { outcome result [] ≡ encrypt_prepared_preview order prepared_len input_len tape_len output_len }
 {
-    let d = Order::served(order)?;
-    answers::prepared_answer(d, prepared_len, input_len, tape_len, output_len)
+    answers::prepared_answer(order, prepared_len, input_len, tape_len, output_len)
 }

@@ -7,7 +7,7 @@ ghost use Rattle.outcomes.specs.Outcome.{outcome, answered, took};
 ghost use Rattle.tape_words.specs.Words.{bytes_of, words_for};
 ghost use Rattle.masking.specs.Steps;
 ghost use Rattle.masking.specs.Fits.{FactorsFit, RowFits};
-ghost use Rattle.masking.specs.Calls.{two_fit, factor_served, product_outcome};
+ghost use Rattle.masking.specs.Calls.{two_fit, factor_tests, factor_served, product_outcome};
 
 use crate::steps::Rows;
 use gf256::Tables;
@@ -32,7 +32,7 @@ pub fn two_fit(d: Order, left: usize, right: usize) -> bool
 }
 
 // The tests, behind that of its order, of a call on two factors with an output of room bytes; on the lengths of its buffers.
-pub fn factors_answer(
+pub fn factors_tested(
     room: usize,
     d: Order,
     left: usize,
@@ -53,6 +53,21 @@ pub fn factors_answer(
         return Err(Refusal::Tape);
     }
     Ok(Count { taken: need })
+}
+
+// The same from the raw order, which is tested first.
+pub fn factors_answer(
+    room: usize,
+    order: usize,
+    left: usize,
+    right: usize,
+    tape: usize,
+    output: usize,
+) -> Answer
+    ensures { result ≡ answered (factor_tests room order left right tape output) (took (words_for (Place.product_need order))) }
+{
+    let d = Order::served(order)?;
+    factors_tested(room, d, left, right, tape, output)
 }
 
 // Row i of the pairs and its running sums, on rows of its own. Answers with how many bytes were drawn.
@@ -140,7 +155,7 @@ pub fn masked_product(
         ≡ product_outcome order left.now right.now tape.now output.old }
 {
     let d = Order::served(order)?;
-    factors_answer(
+    factors_tested(
         d.shares(),
         d,
         left.len(),

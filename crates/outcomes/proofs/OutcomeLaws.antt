@@ -1,6 +1,6 @@
 -- What the tests of a call decide: one induction over their list gives its answer, and what a call that was let through may rely on.
 -- Assumes nothing.
-use mathlib.Core.Path.{◌≡◌, refl, sym, ap, ap₂, ◌∙◌}
+use mathlib.Core.Path.{◌≡◌, refl, sym, ap, ap₂, ◌∙◌, subst}
 use mathlib.Core.Bool.{Bool, true, false, cond, not}
 use mathlib.Core.List.{List, [], ◌∷◌}
 use Prim.Native.Nat.{ℕ, ◌≤◌, ◌<◌}
@@ -182,6 +182,18 @@ order_served-err order r e = go (served order) refl e
     go : (b : Bool) → served order ≡ b → ◌≡◌ {A = Result ℕ Refusal} (cond b (Ok order) (Err Order)) (Err r) → (served order ≡ false) × (r ≡ Order)
     go true p e = absurd (cc)
     go false p e = (p, cc)
+
+-- the answer of all tests, where the order is not served, and from that of the tests behind its own
+pub answered-unserved : (order : ℕ) (ts : List Test) (k : Count) (r : Refusal) → order_served order ≡ Err r
+    → (q : Answer) → IsErrAnd q (λ s. s ≡ r) → q ≡ answered (test Order (served order) ∷ ts) k
+answered-unserved order ts k r e q h =
+    let n = order_served-err order r e in handed_up q r h ∙ ap Err n.1 ∙ answered_here Order (served order) ts k n.0
+
+pub answered-served : (order d : ℕ) (ts : ℕ → List Test) (k : ℕ → Count) (a : Answer) → order_served order ≡ Ok d
+    → a ≡ answered (ts d) (k d) → a ≡ answered (test Order (served order) ∷ ts order) (k order)
+answered-served order d ts k a e f =
+    let n = order_served-ok order d e in
+    subst (λ (o : ℕ). a ≡ answered (test Order (served o) ∷ ts o) (k o)) (sym n.0) (answered_next Order (served d) (ts d) (k d) n.1 f)
 
 -- the exit of the `?` behind it: the call is refused
 pub settled-unserved : (order : ℕ) (ts : List Test) (k : Count) (o made : List ℕ) (r : Refusal) → order_served order ≡ Err r

@@ -60,7 +60,7 @@ pub fn refresh(order: usize, input: &[u8], tape: &[u32], output: &mut [u8]) -> A
         ≡ refresh_outcome order input.now tape.now output.old }
 {
     let d = Order::served(order)?;
-    shares::answers::byte_answer(1, d, input.len(), tape.len(), output.len())?;
+    shares::answers::byte_tested(1, d, input.len(), tape.len(), output.len())?;
     shares::bytes::put(input, output);
     Ok(Count {
         taken: refresh_on_words(d, tape, output),

@@ -165,7 +165,7 @@ pub fn product_sheet(
         ≡ sheet_outcome order left.now right.now tape.now output.old }
 {
     let d = Order::served(order)?;
-    masking::product::factors_answer(
+    masking::product::factors_tested(
         place_count(d),
         d,
         left.len(),

@@ -18,11 +18,11 @@ pub returns-in_err-d : goal.returns-in_err-d
 unfolding encrypt_prepared_outcome
 returns-in_err-d c = settled-unserved _ _ _ _ _ _ (sym c.served.ensures ∙ c.in_err-d.was) _ c.from_residual.ensures.1
 
-pub returns-in_err-prepared_answer : goal.returns-in_err-prepared_answer
+pub returns-in_err-prepared_tested : goal.returns-in_err-prepared_tested
 unfolding encrypt_prepared_outcome
-returns-in_err-prepared_answer c =
+returns-in_err-prepared_tested c =
     let n = order_served-ok _ _ (sym c.served.ensures ∙ c.in_ok-d.was) in
-    let e = settled-handed _ _ _ _ _ c.prepared_answer.ensures _ c.in_err-prepared_answer.was _ c.from_residual-in_err-prepared_answer.ensures.1 in
+    let e = settled-handed _ _ _ _ _ c.prepared_tested.ensures _ c.in_err-prepared_tested.was _ c.from_residual-in_err-prepared_tested.ensures.1 in
     rw n.0 (e ∙ sym (settled-past _ _ _ _ _ n.1))
 
 pub unwrap-size-requires : goal.unwrap-size-requires
@@ -32,7 +32,7 @@ unwrap-size-requires c =
     size-there _ _ c.prepared_words.ensures.none
     (block_through nk (words_for (encrypted_with_need nk c.in_ok-d.d)) c.in_ok-d.d (length a.input.now) (length a.tape.now)
     (length a.output.now) _ _ _
-    c.prepared_answer.ensures c.in_ok-prepared_answer.was).some
+    c.prepared_tested.ensures c.in_ok-prepared_tested.was).some
 
 pub rounds_core-taken-requires : goal.rounds_core-taken-requires
 rounds_core-taken-requires c =
@@ -40,7 +40,7 @@ rounds_core-taken-requires c =
     let nk = prepared_words c.in_ok-d.d (length a.prepared.now) in
     let t = block_through nk (words_for (encrypted_with_need nk c.in_ok-d.d)) c.in_ok-d.d (length a.input.now) (length a.tape.now)
     (length a.output.now) _ _ _
-    c.prepared_answer.ensures c.in_ok-prepared_answer.was
+    c.prepared_tested.ensures c.in_ok-prepared_tested.was
     in
     let w = size-known _ _ _ c.prepared_words.ensures.some c.unwrap-size.ensures in
     record {
@@ -58,7 +58,7 @@ returns c =
     let n = order_served-ok _ _ (sym c.served.ensures ∙ c.in_ok-d.was) in
     let w = size-known _ _ _ c.prepared_words.ensures.some c.unwrap-size.ensures in
     let made = c.rounds_core-taken.ensures in
-    let f = settled-done _ _ _ _ _ c.prepared_answer.ensures _ _ _ c.in_ok-prepared_answer.was
+    let f = settled-done _ _ _ _ _ c.prepared_tested.ensures _ _ _ c.in_ok-prepared_tested.was
     (ap took (whole_words _ _ made.0 ∙ ap (λ (n : ℕ). words_for (encrypted_with_need n c.in_ok-d.d)) w))
     (encrypted_with-made _ c.in_ok-d.d a.prepared.now a.input.now (bytes_of a.tape.now) _ made.1
     ∙ ap (λ (n : ℕ). encrypted_with_laid n c.in_ok-d.d a.prepared.now a.input.now (bytes_of a.tape.now)) w) in

@@ -17,11 +17,11 @@ pub returns-in_err-d : goal.returns-in_err-d
 unfolding prepare_outcome
 returns-in_err-d c = settled-unserved _ _ _ _ _ _ (sym c.served.ensures ∙ c.in_err-d.was) _ c.from_residual.ensures.1
 
-pub returns-in_err-preparation_answer : goal.returns-in_err-preparation_answer
+pub returns-in_err-preparation_tested : goal.returns-in_err-preparation_tested
 unfolding prepare_outcome
-returns-in_err-preparation_answer c =
+returns-in_err-preparation_tested c =
     let n = order_served-ok _ _ (sym c.served.ensures ∙ c.in_ok-d.was) in
-    let e = settled-handed _ _ _ _ _ c.preparation_answer.ensures _ c.in_err-preparation_answer.was _ c.from_residual-in_err-preparation_answer.ensures.1 in
+    let e = settled-handed _ _ _ _ _ c.preparation_tested.ensures _ c.in_err-preparation_tested.was _ c.from_residual-in_err-preparation_tested.ensures.1 in
     rw n.0 (e ∙ sym (settled-past _ _ _ _ _ n.1))
 
 pub unwrap-size-requires : goal.unwrap-size-requires
@@ -29,13 +29,13 @@ unwrap-size-requires c =
     let a = c.args in
     size-there _ _ c.key_words.ensures.none
     (preparation_through c.in_ok-d.d (length a.key.now) (length a.tape.now) (length a.output.now) _ _ _
-    c.preparation_answer.ensures c.in_ok-preparation_answer.was).some
+    c.preparation_tested.ensures c.in_ok-preparation_tested.was).some
 
 pub expand_core-requires : goal.expand_core-requires
 expand_core-requires c =
     let a = c.args in
     let t = preparation_through c.in_ok-d.d (length a.key.now) (length a.tape.now) (length a.output.now) _ _ _
-    c.preparation_answer.ensures c.in_ok-preparation_answer.was
+    c.preparation_tested.ensures c.in_ok-preparation_tested.was
     in
     let w = size-known _ _ _ c.key_words.ensures.some c.unwrap-size.ensures in
     record {
@@ -53,7 +53,7 @@ returns c =
     let n = order_served-ok _ _ (sym c.served.ensures ∙ c.in_ok-d.was) in
     let w = size-known _ _ _ c.key_words.ensures.some c.unwrap-size.ensures in
     let made = c.expand_core.ensures in
-    let f = settled-done _ _ _ _ _ c.preparation_answer.ensures _ _ _ c.in_ok-preparation_answer.was
+    let f = settled-done _ _ _ _ _ c.preparation_tested.ensures _ _ _ c.in_ok-preparation_tested.was
     (ap took (whole_words _ _ made.0 ∙ ap (λ (n : ℕ). words_for (schedule_need n c.in_ok-d.d)) w))
     (prepared_made _ c.in_ok-d.d a.key.now (bytes_of a.tape.now) _ made.1
     ∙ ap (λ (n : ℕ). prepared_laid n c.in_ok-d.d a.key.now (bytes_of a.tape.now)) w) in

@@ -20,11 +20,11 @@ returns-in_err-d c =
     settled-unserved _ _ _ _ _ _ (sym c.served.ensures ∙ c.in_err-d.was) _ c.from_residual.ensures.1
     ∙ single_is a.which a.order a.key.now a.input.now a.tape.now a.output.now
 
-pub returns-in_err-single_answer : goal.returns-in_err-single_answer
-returns-in_err-single_answer c =
+pub returns-in_err-single_tested : goal.returns-in_err-single_tested
+returns-in_err-single_tested c =
     let a = c.args in
     let n = order_served-ok _ _ (sym c.served.ensures ∙ c.in_ok-d.was) in
-    let e = settled-handed _ _ _ _ _ c.single_answer.ensures _ c.in_err-single_answer.was _ c.from_residual-in_err-single_answer.ensures.1 in
+    let e = settled-handed _ _ _ _ _ c.single_tested.ensures _ c.in_err-single_tested.was _ c.from_residual-in_err-single_tested.ensures.1 in
     rw n.0 (e ∙ sym (settled-past _ _ _ _ _ n.1) ∙ single_is a.which c.in_ok-d.d a.key.now a.input.now a.tape.now a.output.now)
 
 pub unwrap-size-requires : goal.unwrap-size-requires
@@ -34,7 +34,7 @@ unwrap-size-requires c =
     size-there _ _ c.key_words.ensures.none
     (block_through nk (words_for (cipher_need nk c.in_ok-d.d)) c.in_ok-d.d (length a.input.now) (length a.tape.now)
     (length a.output.now) _ _ _
-    c.single_answer.ensures c.in_ok-single_answer.was).some
+    c.single_tested.ensures c.in_ok-single_tested.was).some
 
 pub block_core-requires : goal.block_core-requires
 block_core-requires c =
@@ -42,7 +42,7 @@ block_core-requires c =
     let nk = key_words c.in_ok-d.d (length a.key.now) in
     let t = block_through nk (words_for (cipher_need nk c.in_ok-d.d)) c.in_ok-d.d (length a.input.now) (length a.tape.now)
     (length a.output.now) _ _ _
-    c.single_answer.ensures c.in_ok-single_answer.was
+    c.single_tested.ensures c.in_ok-single_tested.was
     in
     let w = size-known _ _ _ c.key_words.ensures.some c.unwrap-size.ensures in
     record {
@@ -60,7 +60,7 @@ returns c =
     let n = order_served-ok _ _ (sym c.served.ensures ∙ c.in_ok-d.was) in
     let w = size-known _ _ _ c.key_words.ensures.some c.unwrap-size.ensures in
     let made = c.block_core.ensures in
-    let f = settled-done _ _ _ _ _ c.single_answer.ensures _ _ _ c.in_ok-single_answer.was
+    let f = settled-done _ _ _ _ _ c.single_tested.ensures _ _ _ c.in_ok-single_tested.was
     (ap took (whole_words _ _ made.0 ∙ ap (λ (n : ℕ). words_for (cipher_need n c.in_ok-d.d)) w))
     (made.1 ∙ ap (λ (n : ℕ). laid_of a.which n c.in_ok-d.d a.key.now a.input.now (bytes_of a.tape.now)) w) in
     rw n.0 (f ∙ sym (settled-past _ _ _ _ _ n.1) ∙ single_is a.which c.in_ok-d.d a.key.now a.input.now a.tape.now a.output.now)

@@ -11,24 +11,24 @@ pub returns-in_err-d : goal.returns-in_err-d
 unfolding product_outcome
 returns-in_err-d c = settled-unserved _ _ _ _ _ _ (sym c.served.ensures ∙ c.in_err-d.was) _ c.from_residual.ensures.1
 
-pub returns-in_err-factors_answer : goal.returns-in_err-factors_answer
+pub returns-in_err-factors_tested : goal.returns-in_err-factors_tested
 unfolding product_outcome
-returns-in_err-factors_answer c =
+returns-in_err-factors_tested c =
     let n = order_served-ok _ _ (sym c.served.ensures ∙ c.in_ok-d.was) in
-    let e = factors_answered _ _ _ _ _ _ _ _ c.shares.ensures.0 c.factors_answer.ensures in
-    let f = settled-handed _ _ _ _ _ e _ c.in_err-factors_answer.was _ c.from_residual-in_err-factors_answer.ensures.1 in
+    let e = factors_answered _ _ _ _ _ _ _ _ c.shares.ensures.0 c.factors_tested.ensures in
+    let f = settled-handed _ _ _ _ _ e _ c.in_err-factors_tested.was _ c.from_residual-in_err-factors_tested.ensures.1 in
     rw n.0 (f ∙ sym (settled-past _ _ _ _ _ n.1))
 
 pub product_on_words-requires : goal.product_on_words-requires
 product_on_words-requires c =
-    let e = factors_answered _ _ _ _ _ _ _ _ c.shares.ensures.0 c.factors_answer.ensures in
-    let h = factors_through _ _ _ _ _ _ _ _ _ e c.in_ok-factors_answer.was in
+    let e = factors_answered _ _ _ _ _ _ _ _ c.shares.ensures.0 c.factors_tested.ensures in
+    let h = factors_through _ _ _ _ _ _ _ _ _ e c.in_ok-factors_tested.was in
     (record { left = h.left; right = h.right; drawn = words_reach _ c.args.tape.now h.drawn }, h.output)
 
 pub returns : goal.returns
 unfolding product_outcome
 returns c =
     let n = order_served-ok _ _ (sym c.served.ensures ∙ c.in_ok-d.was) in
-    let e = factors_answered _ _ _ _ _ _ _ _ c.shares.ensures.0 c.factors_answer.ensures in
-    let f = settled-done _ _ _ _ _ e _ _ _ c.in_ok-factors_answer.was (ap took c.product_on_words.ensures.0) c.product_on_words.ensures.1 in
+    let e = factors_answered _ _ _ _ _ _ _ _ c.shares.ensures.0 c.factors_tested.ensures in
+    let f = settled-done _ _ _ _ _ e _ _ _ c.in_ok-factors_tested.was (ap took c.product_on_words.ensures.0) c.product_on_words.ensures.1 in
     rw n.0 (f ∙ sym (settled-past _ _ _ _ _ n.1))
