@@ -16,7 +16,7 @@ use Rattle.std.specs.Prelude.{Ok, Err}
 use Rattle.outcomes.specs.Outcome.{done, took, answered, ended, settled, served, reaches, share_length}
 use Rattle.shares.specs.Strings.{joined_string, parts}
 use Rattle.shares.specs.Calls.{join_outcome, unused}
-use Rattle.outcomes.proofs.OutcomeLaws.{all, ◌and◌, settled-taken, settled-passed, le_reaches}
+use Rattle.outcomes.proofs.OutcomeLaws.{all, ◌and◌, first_passed, settled-taken, settled-passed, le_reaches}
 use Rattle.outcomes.proofs.LengthsLaws.{share_length_16}
 use Rattle.shares.proofs.StringsLaws.{shares_of, laid-length}
 use Rattle.tape_words.specs.Words.{bytes_of, words_for}
@@ -90,7 +90,7 @@ single_carried w d j k x ts o shares e =
     let t = block_passed nk (words_for (cipher_need nk d)) d (length x) (length ts) (length o) g.0 in
     let lk = key_length d (length k) t.some in
     record {
-      is_served = t.served_order;
+      is_served = first_passed g.0;
       some = t.some;
       input_long = t.input;
       counted = g.1;
@@ -140,7 +140,7 @@ encrypt_prepared_then_join d j ks x ts o shares p e h =
     let g = settled-taken _ _ o (encrypted_with_laid nk d ks x (bytes_of ts)) j shares e in
     let t = block_passed nk (words_for (encrypted_with_need nk d)) d (length x) (length ts) (length o) g.0 in
     let lk : length ks ≡ suc d * (16 * suc (rounds nk)) = prepared_long d (length ks) t.some in
-    join_block d shares p t.served_order (ap length g.2 ∙ length-encrypted_with nk d ks x (bytes_of ts) lk t.input) h
+    join_block d shares p (first_passed g.0) (ap length g.2 ∙ length-encrypted_with nk d ks x (bytes_of ts) lk t.input) h
     ∙ ap (done (took 0))
     (ap (λ (s : List ℕ). joined_string (parts (suc d) 16 s)) g.2 ∙ encrypted_with_joins_laid nk d ks x (bytes_of ts) lk t.input)
 
@@ -222,5 +222,5 @@ encrypt_prepares d j k x ts out shares o e h =
     let sum = words-add (schedule_need nk d) (encrypted_with_need nk d) (schedule-whole nk d) in
     let fits : words_for (schedule_need nk d) ≤ length ts = omega (arith, sum, t.drawn) in
     settled-passed _ o _
-    (t.served_order and lt-ltb 0 nk t.some and eq-eqb (length o) (prepared_length nk d) h and le_reaches (length ts)
+    (first_passed g.0 and lt-ltb 0 nk t.some and eq-eqb (length o) (prepared_length nk d) h and le_reaches (length ts)
     (words_for (schedule_need nk d)) fits and all)

@@ -5,7 +5,6 @@ use Rattle.cipher.specs.Cipher.{cipher_need}
 
 -- what a block from a key asks
 pub record BlockFits (nk d : ℕ) (key x tape out : List ℕ) : Type 0 where
-  pub order : d ≤ 8
   pub some : 1 ≤ nk
   pub small : nk ≤ 8
   pub long : length key ≡ suc d * (4 * nk)

@@ -5,17 +5,18 @@ ghost use Rattle.aes.specs.Calls.{prepare_outcome, encrypt_prepared_outcome};
 
 use gf256::{Direction, Tables};
 use lengths::sizes;
-use outcomes::{Answer, Count};
+use outcomes::{Answer, Count, Order};
 
 // The masked key expansion, once: round keys 0 to Nr of share 0, then those of share 1, and so on.
 pub fn prepare(order: usize, key: &[u8], tape: &[u32], output: &mut [u8]) -> Answer
     ensures { outcome result output.new ≡ prepare_outcome order key.now tape.now output.old }
 {
-    lengths::answers::preparation_answer(order, key.len(), tape.len(), output.len())?;
-    let size = sizes::key_words(order, key.len()).unwrap();
+    let d = Order::served(order)?;
+    lengths::answers::preparation_tested(d, key.len(), tape.len(), output.len())?;
+    let size = sizes::key_words(d, key.len()).unwrap();
     let tables = Tables::new();
     Ok(Count {
-        taken: schedule::expansion::expand_core(&tables, size.nk, order, key, tape, output),
+        taken: schedule::expansion::expand_core(&tables, size.nk, d, key, tape, output),
     })
 }
 
@@ -30,20 +31,21 @@ pub fn encrypt_prepared(
     ensures { outcome result output.new
         ≡ encrypt_prepared_outcome order prepared.now input.now tape.now output.old }
 {
-    lengths::answers::prepared_answer(
-        order,
+    let d = Order::served(order)?;
+    lengths::answers::prepared_tested(
+        d,
         prepared.len(),
         input.len(),
         tape.len(),
         output.len(),
     )?;
-    let size = sizes::prepared_words(order, prepared.len()).unwrap();
+    let size = sizes::prepared_words(d, prepared.len()).unwrap();
     let tables = Tables::new();
     let taken = rounds::rounds::rounds_core(
         &tables,
         Direction::Forward,
         size.nk,
-        order,
+        d,
         prepared,
         input,
         tape,

@@ -10,14 +10,14 @@ ghost use Rattle.aes.specs.Fits.{BlockFits};
 
 use gf256::{Direction, Tables};
 use lengths::sizes;
-use outcomes::{Answer, Count};
+use outcomes::{Answer, Count, Order};
 
 // The key expansion draws first, then the rounds.
 fn block_with(
     tables: &Tables,
     which: Direction,
     nk: usize,
-    d: usize,
+    d: Order,
     key: &[u8],
     input: &[u8],
     tape: &[u32],
@@ -47,7 +47,7 @@ fn block_core(
     tables: &Tables,
     which: Direction,
     nk: usize,
-    d: usize,
+    d: Order,
     key: &[u8],
     input: &[u8],
     tape: &[u32],
@@ -84,17 +84,18 @@ fn call(
     ensures { outcome result output.new
         ≡ single_outcome which order key.now input.now tape.now output.old }
 {
-    lengths::answers::single_answer(
-        order,
+    let d = Order::served(order)?;
+    lengths::answers::single_tested(
+        d,
         key.len(),
         input.len(),
         tape.len(),
         output.len(),
     )?;
-    let size = sizes::key_words(order, key.len()).unwrap();
+    let size = sizes::key_words(d, key.len()).unwrap();
     let tables = Tables::new();
     Ok(Count {
-        taken: block_core(&tables, which, size.nk, order, key, input, tape, output),
+        taken: block_core(&tables, which, size.nk, d, key, input, tape, output),
     })
 }
 

@@ -8,14 +8,16 @@ ghost use Rattle.shares.specs.Strings.{parts, laid};
 ghost use Rattle.cipher.specs.States.{each_by};
 ghost use Rattle.buffers.specs.Each.{TakesShares, MakesShares};
 
+use outcomes::Order;
+
 // f on each share of s, of l bytes each; it is told the share's number.
-pub fn each_share<F: Fn(usize, &mut [u8])>(d: usize, l: usize, s: &mut [u8], f: F)
-    requires long { (d ≤ 8) × (length s.old ≡ suc d * l) }
+pub fn each_share<F: Fn(usize, &mut [u8])>(d: Order, l: usize, s: &mut [u8], f: F)
+    requires long { length s.old ≡ suc d * l }
     requires takes { TakesShares F.Fn f (suc d) l }
     ensures { (g : ℕ → List ℕ → List ℕ) → MakesShares F.Fn f (suc d) l g
         → s.new ≡ laid (each_by g 0 (parts (suc d) l s.old)) }
 {
-    for i in 0..d + 1 {
+    for i in 0..d.shares() {
         let a = i * l;
         let e = a + l;
         f(i, &mut s[a..e]);

@@ -5,6 +5,5 @@ use Rattle.gadgets.specs.Cube.{cube_need}
 
 -- a cube: the shares of x, and what it draws
 pub record CubeFits (d : ℕ) (x tape : List ℕ) : Type 0 where
-  pub order : d ≤ 8
   pub input : length x ≡ suc d
   pub drawn : cube_need d ≤ length tape

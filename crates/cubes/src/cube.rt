@@ -13,31 +13,30 @@ ghost use Rattle.cubes.specs.Fits.{CubeFits};
 ghost use Rattle.cubes.specs.Calls.{cube_sheet_outcome};
 
 use gf256::{Exponent, Tables};
-use outcomes::{Answer, Count};
+use outcomes::{Answer, Count, Order};
 
 // How many places the cube has.
-pub fn cube_count(d: usize) -> usize
-    requires { d ≤ 8 }
+pub fn cube_count(d: Order) -> usize
     ensures { (result ≡ Cube.cube_count d) × (result ≤ 396) }
 {
-    let n = d + 1;
-    n + 3 * (d * n / 2) + sheets::sheet::place_count(d)
+    let n = d.shares();
+    n + 3 * pairs::counting::pair_count(d) + sheets::sheet::place_count(d)
 }
 
 // The same where d is an order that is served, and 0 where it is not.
 pub fn cube_size(order: usize) -> usize
     ensures { (Outcome.served order ≡ true → result ≡ Cube.cube_count order) × (result ≤ 396) }
 {
-    if outcomes::asked::served(order) {
-        return cube_count(order);
+    match Order::served(order) {
+        Ok(d) => cube_count(d),
+        Err(_) => 0,
     }
-    0
 }
 
 // The first factor, z = x² refreshed, and its places over the front of out: the squares, then the refresh. Answers with how many bytes were drawn.
 fn factor_shown(
     tables: &Tables,
-    d: usize,
+    d: Order,
     x: &[u8],
     tape: &[u8],
     z: &mut [u8],
@@ -51,14 +50,14 @@ fn factor_shown(
 {
     power254::powers::raise(tables, Exponent::Two, x, z);
     shares::bytes::put(z, out);
-    let n = d + 1;
+    let n = d.shares();
     refresh_sheets::rows::refresh_shown(d, tape, z, &mut out[n..])
 }
 
 // The whole sheet. Answers with how many bytes were drawn.
 pub fn cube_core(
     tables: &Tables,
-    d: usize,
+    d: Order,
     x: &[u8],
     tape: &[u8],
     out: &mut [u8],
@@ -68,7 +67,7 @@ pub fn cube_core(
         × (out.new ≡ Cube.cube_sheet Field.times Field.squared d x.now tape.now) }
 {
     let mut room = [0u8; 9];
-    let n = d + 1;
+    let n = d.shares();
     let z = &mut room[0..n];
     let drawn = factor_shown(tables, d, x, tape, z, out);
     let at = n + 3 * drawn;
@@ -78,7 +77,7 @@ pub fn cube_core(
 // The same on a tape of words. Answers with how many words were drawn.
 fn cube_on_words(
     tables: &Tables,
-    d: usize,
+    d: Order,
     x: &[u8],
     tape: &[u32],
     out: &mut [u8],
@@ -96,17 +95,17 @@ pub fn cube_sheet(order: usize, input: &[u8], tape: &[u32], output: &mut [u8]) -
     ensures { outcome result output.new
         ≡ cube_sheet_outcome order input.now tape.now output.old }
 {
-    let size = cube_size(order);
-    shares::answers::input_answer(
+    let d = Order::served(order)?;
+    shares::answers::input_tested(
         2,
-        size,
-        order,
+        cube_count(d),
+        d,
         input.len(),
         tape.len(),
         output.len(),
     )?;
     let tables = Tables::new();
     Ok(Count {
-        taken: cube_on_words(&tables, order, input, tape, output),
+        taken: cube_on_words(&tables, d, input, tape, output),
     })
 }

@@ -3,7 +3,6 @@ use mathlib.Core.Path.{◌≡◌, refl, sym, ap, ap₂, ◌∙◌, subst}
 use mathlib.Core.List.{[], ◌∷◌}
 use Prim.Native.Nat.{ℕ, zero, suc, ◌+◌, ◌*◌, ◌-◌, ◌/◌, ◌%◌, ◌≤◌, ◌<◌}
 use native.Mathlib.Nat.{mul-le-mul}
-use native.Mathlib.Numerals.{add-one}
 use native.Mathlib.Omega.{arith}
 use Rattle.xor.proofs.Tests.{by_eq}
 use Rattle.std.specs.Prelude.{Option, Some, None}
@@ -11,7 +10,6 @@ use Rattle.outcomes.specs.Outcome.{one_of, listed_length, key_lengths, share_len
 use Rattle.outcomes.proofs.LengthsLaws.{one_of_here, one_of_next, one_of_is, one_of-each, listed_length-each, listed_length-some, listed_length-none, none, also, share_length_16, share_length_24}
 use Rattle.outcomes.proofs.LengthsLaws.{share_length_32, share_length_cases, share_length_is, share_length-some, share_length-none}
 use Rattle.sbox.specs.Box.{box_need, box_most}
-use Rattle.sbox.proofs.BoxLaws.{box_need_bound}
 use Rattle.cipher.specs.Fips197.{rounds}
 use Rattle.cipher.specs.Cipher.{schedule_need, encrypted_with_need}
 use Rattle.cipher.proofs.NeedLaws.{schedule_need_4, schedule_need_6, schedule_need_8, encrypted_with_need_is}
@@ -78,44 +76,44 @@ module _ (d l : ℕ) (some : 0 < prepared_words d l) where
 abbrev Sized : ℕ → Type 0
 Sized n = (4 ≤ n) × (n ≤ 8) × (n % 2 ≡ 0)
 
-module _ (d b : ℕ) (o : Option ℕ) (looked : o ≡ listed_length key_lengths (d + 1) b) where
+module _ (n d b : ℕ) (shares : n ≡ suc d) (o : Option ℕ) (looked : o ≡ listed_length key_lengths n b) where
   pub key_words-none : o ≡ None → key_words d b ≡ 0
   unfolding key_words
   key_words-none e =
-      ap (λ (n : ℕ). share_length n b / 4) (sym (add-one d)) ∙ ap (λ (l : ℕ). l / 4) (share_length-none (d + 1) b (sym looked ∙ e))
+      ap (λ (m : ℕ). share_length m b / 4) (sym shares) ∙ ap (λ (l : ℕ). l / 4) (share_length-none n b (sym looked ∙ e))
 
   module _ (l : ℕ) (e : o ≡ Some l) where
     pub key_words-made : l / 4 ≡ key_words d b
     unfolding key_words
     key_words-made =
-        ap (λ (l : ℕ). l / 4) (sym (share_length-some (d + 1) b l (sym looked ∙ e)).0) ∙ ap (λ (n : ℕ). share_length n b / 4) (add-one d)
+        ap (λ (l : ℕ). l / 4) (sym (share_length-some n b l (sym looked ∙ e)).0) ∙ ap (λ (m : ℕ). share_length m b / 4) shares
 
     pub key_words-sized : Sized (l / 4)
     key_words-sized =
         listed_length-each {P = λ k. Sized (k / 4)}
         (also (omega arith, omega arith, refl) (also (omega arith, omega arith, refl) (also (omega arith, omega arith, refl) none)))
-        (d + 1) b l (sym looked ∙ e)
+        n b l (sym looked ∙ e)
 
-module _ (d b : ℕ) (o : Option ℕ) (looked : o ≡ listed_length prepared_lengths (d + 1) b) where
+module _ (n d b : ℕ) (shares : n ≡ suc d) (o : Option ℕ) (looked : o ≡ listed_length prepared_lengths n b) where
   pub prepared_words-none : o ≡ None → prepared_words d b ≡ 0
   unfolding prepared_words
   prepared_words-none e =
-      ap (λ (n : ℕ). one_of prepared_lengths n b / 16 - 7) (sym (add-one d))
-      ∙ ap (λ (l : ℕ). l / 16 - 7) (listed_length-none prepared_lengths (d + 1) b (sym looked ∙ e))
+      ap (λ (m : ℕ). one_of prepared_lengths m b / 16 - 7) (sym shares)
+      ∙ ap (λ (l : ℕ). l / 16 - 7) (listed_length-none prepared_lengths n b (sym looked ∙ e))
 
   module _ (l : ℕ) (e : o ≡ Some l) where
     pub prepared_words-made : l / 16 - 7 ≡ prepared_words d b
     unfolding prepared_words
     prepared_words-made =
-        ap (λ (l : ℕ). l / 16 - 7) (sym (listed_length-some prepared_lengths (d + 1) b l (sym looked ∙ e)))
-        ∙ ap (λ (n : ℕ). one_of prepared_lengths n b / 16 - 7) (add-one d)
+        ap (λ (l : ℕ). l / 16 - 7) (sym (listed_length-some prepared_lengths n b l (sym looked ∙ e)))
+        ∙ ap (λ (m : ℕ). one_of prepared_lengths m b / 16 - 7) shares
 
     pub prepared_words-sized : (7 ≤ l / 16) × Sized (l / 16 - 7)
     prepared_words-sized =
         listed_length-each {P = λ k. (7 ≤ k / 16) × Sized (k / 16 - 7)}
         (also (omega arith, (omega arith, omega arith, refl))
         (also (omega arith, (omega arith, omega arith, refl)) (also (omega arith, (omega arith, omega arith, refl)) none)))
-        (d + 1) b l (sym looked ∙ e)
+        n b l (sym looked ∙ e)
 
 -- keys that were prepared have the size of their key: the three lengths differ
 pub prepared_words-of : {nk : ℕ} (d : ℕ) → KeySize nk → prepared_words d (prepared_length nk d) ≡ nk
@@ -138,15 +136,12 @@ size_bounds six = (omega arith, omega arith)
 size_bounds eight = (omega arith, omega arith)
 
 -- the length of prepared keys, as the code counts it
-pub prepared_length_is : (nk d : ℕ) → (d + 1) * (16 * (nk + 7)) ≡ prepared_length nk d
+pub prepared_length_is : (nk n d : ℕ) → n ≡ suc d → n * (16 * (nk + 7)) ≡ prepared_length nk d
 unfolding prepared_length rounds
-prepared_length_is nk d = let e : 16 * (nk + 7) ≡ 16 * suc (nk + 6) = omega arith in ap₂ ◌*◌ (add-one d) e
+prepared_length_is nk n d s = let e : 16 * (nk + 7) ≡ 16 * suc (nk + 6) = omega arith in ap₂ ◌*◌ s e
 
-pub prepared_length_bound : (nk d : ℕ) → d ≤ 8 → nk ≤ 8 → (d + 1) * (16 * (nk + 7)) ≤ 2160
-prepared_length_bound nk d h g =
-    let a : d + 1 ≤ 9 = omega arith in
-    let b : 16 * (nk + 7) ≤ 240 = omega arith in
-    mul-le-mul a b
+pub prepared_length_bound : (nk n : ℕ) → n ≤ 9 → nk ≤ 8 → n * (16 * (nk + 7)) ≤ 2160
+prepared_length_bound nk n h g = let b : 16 * (nk + 7) ≤ 240 = omega arith in mul-le-mul h b
 
 boxes_bound : {nk : ℕ} → KeySize nk → boxes_of nk ≤ 52
 unfolding boxes_of
@@ -160,8 +155,8 @@ schedule_need-made d four = sym (schedule_need_4 d)
 schedule_need-made d six = sym (schedule_need_6 d)
 schedule_need-made d eight = sym (schedule_need_8 d)
 
-pub schedule_need_bound : {nk : ℕ} (d : ℕ) → KeySize nk → d ≤ 8 → boxes_of nk * box_need d ≤ 52 * box_most
-schedule_need_bound d size h = mul-le-mul (boxes_bound size) (box_need_bound d h)
+pub schedule_need_bound : {nk b : ℕ} → KeySize nk → b ≤ box_most → boxes_of nk * b ≤ 52 * box_most
+schedule_need_bound size h = mul-le-mul (boxes_bound size) h
 
 pub encrypted_with_need-made : {nk : ℕ} (d : ℕ) → KeySize nk → 16 * (nk + 6) * box_need d ≡ encrypted_with_need nk d
 unfolding rounds
@@ -169,8 +164,8 @@ encrypted_with_need-made d four = omega (arith, encrypted_with_need_is 4 d)
 encrypted_with_need-made d six = omega (arith, encrypted_with_need_is 6 d)
 encrypted_with_need-made d eight = omega (arith, encrypted_with_need_is 8 d)
 
-pub encrypted_with_need_bound : {nk : ℕ} (d : ℕ) → KeySize nk → d ≤ 8 → 16 * (nk + 6) * box_need d ≤ 224 * box_most
-encrypted_with_need_bound {nk} d size h =
+pub encrypted_with_need_bound : {nk b : ℕ} → KeySize nk → b ≤ box_most → 16 * (nk + 6) * b ≤ 224 * box_most
+encrypted_with_need_bound {nk} size h =
     let b = size_bounds size in
     let n : 16 * (nk + 6) ≤ 224 = omega arith in
-    mul-le-mul n (box_need_bound d h)
+    mul-le-mul n h

@@ -5,6 +5,7 @@ ghost use Rattle.sbox.specs.Box as Box;
 ghost use Rattle.lengths.specs.Lengths.{boxes_of};
 
 use crate::key::KeyWords;
+use outcomes::Order;
 
 // How many S-boxes a key expansion has.
 fn key_boxes(nk: usize) -> usize
@@ -20,24 +21,21 @@ fn key_boxes(nk: usize) -> usize
 }
 
 // How many bytes a key expansion draws.
-pub fn schedule_need(key: KeyWords, d: usize) -> usize
-    requires { d ≤ 8 }
+pub fn schedule_need(key: KeyWords, d: Order) -> usize
     ensures { (result ≡ Cipher.schedule_need key.nk d) × (result ≤ 52 * Box.box_most) }
 {
     key_boxes(key.nk) * sbox::boxes::box_need(d)
 }
 
 // How many bytes the rounds draw, either way: 16 S-boxes each.
-pub fn encrypted_with_need(key: KeyWords, d: usize) -> usize
-    requires { d ≤ 8 }
+pub fn encrypted_with_need(key: KeyWords, d: Order) -> usize
     ensures { (result ≡ Cipher.encrypted_with_need key.nk d) × (result ≤ 224 * Box.box_most) }
 {
     16 * (key.nk + 6) * sbox::boxes::box_need(d)
 }
 
 // How many bytes an encryption or decryption draws, with its key expansion.
-pub fn cipher_need(key: KeyWords, d: usize) -> usize
-    requires { d ≤ 8 }
+pub fn cipher_need(key: KeyWords, d: Order) -> usize
     ensures { result ≡ Cipher.cipher_need key.nk d }
 {
     schedule_need(key, d) + encrypted_with_need(key, d)

@@ -10,6 +10,7 @@ ghost use Rattle.linear.specs.declared.Step.TheVariants.{ShiftRows, MixColumns};
 use crate::Step;
 use buffers::each::each_share;
 use gf256::Direction;
+use outcomes::Order;
 use shares::bytes::xor_into;
 
 // How many columns to the left row r goes.
@@ -75,16 +76,16 @@ fn step_share(step: Step, which: Direction, s: &mut [u8])
 }
 
 // The step that is named, on each share.
-pub fn step_all(step: Step, which: Direction, d: usize, s: &mut [u8])
-    requires { (d ≤ 8) × (length s.old ≡ suc d * 16) }
+pub fn step_all(step: Step, which: Direction, d: Order, s: &mut [u8])
+    requires { length s.old ≡ suc d * 16 }
     ensures { s.new ≡ laid (map (stepped step which) (parts (suc d) 16 s.old)) }
 {
     each_share(d, 16, s, |_, share| step_share(step, which, share));
 }
 
 // Round key r into each share; the keys have m bytes in each share.
-pub fn add_key(d: usize, m: usize, r: usize, keys: &[u8], s: &mut [u8])
-    requires { (d ≤ 8) × (16 * r + 16 ≤ m) × (length keys.now ≡ suc d * m) × (length s.old ≡ suc d * 16) }
+pub fn add_key(d: Order, m: usize, r: usize, keys: &[u8], s: &mut [u8])
+    requires { (16 * r + 16 ≤ m) × (length keys.now ≡ suc d * m) × (length s.old ≡ suc d * 16) }
     ensures { s.new
         ≡ laid (adds (parts (suc d) 16 s.old) (round_keys (parts (suc d) m keys.now) r)) }
 {
@@ -95,8 +96,8 @@ pub fn add_key(d: usize, m: usize, r: usize, keys: &[u8], s: &mut [u8])
 }
 
 // RotWord of each share.
-pub fn rot_all(d: usize, s: &mut [u8])
-    requires { (d ≤ 8) × (length s.old ≡ suc d * 4) }
+pub fn rot_all(d: Order, s: &mut [u8])
+    requires { length s.old ≡ suc d * 4 }
     ensures { s.new ≡ laid (map Fips197.rot_word (parts (suc d) 4 s.old)) }
 {
     each_share(d, 4, s, |_, word| word.rotate_left(1));

@@ -62,8 +62,8 @@ module _ (d i k : ℕ) (h : i < d) (e : k ≡ before_row (suc d) i) where
   unfolding product_need
   row_counts = Pairs.row_counts d i k h e
 
-  pub row_fits : (a b ts s : List ℕ) → FactorsFit d a b ts → length s ≡ suc d → RowFits i (d - i) a b (take (length ts - k) (drop k ts)) s
-  row_fits a b ts s f ls =
+  pub row_fits : d ≤ 8 → (a b ts s : List ℕ) → FactorsFit d a b ts → length s ≡ suc d → RowFits i (d - i) a b (take (length ts - k) (drop k ts)) s
+  row_fits most a b ts s f ls =
       let r = row_counts in
       record {
         some = omega arith;

@@ -11,10 +11,13 @@ use Rattle.tape_words.specs.Words.{bytes_of, words_for}
 unfoldable pub two_fit : (d left right : ℕ) → Bool
 two_fit d a b = eqb a (suc d) && eqb b (suc d)
 
--- the tests of a call on two factors that draws what a product draws, with an output of `room` bytes; on the lengths of its buffers
+-- the tests of a call on two factors that draws what a product draws, with an output of `room` bytes; on the lengths of its buffers: those of an
+-- order that is served, and all
+abbrev pub factor_served : (room order left right tape output : ℕ) → List Test
+factor_served n d a b t o = test Input (two_fit d a b) ∷ test Output (eqb o n) ∷ test Tape (reaches t (words_for (product_need d))) ∷ []
+
 abbrev pub factor_tests : (room order left right tape output : ℕ) → List Test
-factor_tests n d a b t o =
-    test Order (served d) ∷ test Input (two_fit d a b) ∷ test Output (eqb o n) ∷ test Tape (reaches t (words_for (product_need d))) ∷ []
+factor_tests n d a b t o = test Order (served d) ∷ factor_served n d a b t o
 
 -- product: an output of n bytes
 unfoldable pub product_outcome : (order : ℕ) (left right tape output : List ℕ) → Outcome

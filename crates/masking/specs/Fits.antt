@@ -5,7 +5,6 @@ use Rattle.isw.specs.Place.{product_need}
 
 -- a product of order d: both factors have n shares, and the tape has what it draws
 pub record FactorsFit (d : ℕ) (a b tape : List ℕ) : Type 0 where
-  pub order : d ≤ 8
   pub left : length a ≡ suc d
   pub right : length b ≡ suc d
   pub drawn : product_need d ≤ length tape

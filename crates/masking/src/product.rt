@@ -7,32 +7,55 @@ ghost use Rattle.outcomes.specs.Outcome.{outcome, answered, took};
 ghost use Rattle.tape_words.specs.Words.{bytes_of, words_for};
 ghost use Rattle.masking.specs.Steps;
 ghost use Rattle.masking.specs.Fits.{FactorsFit, RowFits};
-ghost use Rattle.masking.specs.Calls.{two_fit, factor_tests, product_outcome};
+ghost use Rattle.masking.specs.Calls.{two_fit, factor_tests, factor_served, product_outcome};
 
 use crate::rows::Rows;
 use gf256::Tables;
-use outcomes::{Answer, Count, Refusal};
+use outcomes::{Answer, Count, Order, Refusal};
 
 // How many bytes a product of order d draws.
-pub fn product_need(d: usize) -> usize
-    requires { d ≤ 8 }
-    ensures { result ≡ Place.product_need d }
+pub fn product_need(d: Order) -> usize
+    ensures { (result ≡ Place.product_need d) × (result ≤ 36) }
 {
     pairs::counting::pair_count(d)
 }
 
 // Whether both factors have n shares, by their lengths.
-pub fn two_fit(d: usize, left: usize, right: usize) -> bool
-    requires { d ≤ 8 }
+pub fn two_fit(d: Order, left: usize, right: usize) -> bool
     ensures { result ≡ two_fit d left right }
 {
-    if left == d + 1 {
-        return right == d + 1;
+    let n = d.shares();
+    if left == n {
+        return right == n;
     }
     false
 }
 
-// The tests of a call on two factors with an output of room bytes, on the lengths of its buffers.
+// The tests, behind that of its order, of a call on two factors with an output of room bytes; on the lengths of its buffers.
+pub fn factors_tested(
+    room: usize,
+    d: Order,
+    left: usize,
+    right: usize,
+    tape: usize,
+    output: usize,
+) -> Answer
+    ensures { result ≡ answered (factor_served room d left right tape output) (took (words_for (Place.product_need d))) }
+{
+    if !two_fit(d, left, right) {
+        return Err(Refusal::Input);
+    }
+    if output != room {
+        return Err(Refusal::Output);
+    }
+    let need = tape_words::words_for(product_need(d));
+    if tape < need {
+        return Err(Refusal::Tape);
+    }
+    Ok(Count { taken: need })
+}
+
+// The same from the raw order, which is tested first.
 pub fn factors_answer(
     room: usize,
     order: usize,
@@ -43,20 +66,8 @@ pub fn factors_answer(
 ) -> Answer
     ensures { result ≡ answered (factor_tests room order left right tape output) (took (words_for (Place.product_need order))) }
 {
-    if !outcomes::asked::served(order) {
-        return Err(Refusal::Order);
-    }
-    if !two_fit(order, left, right) {
-        return Err(Refusal::Input);
-    }
-    if output != room {
-        return Err(Refusal::Output);
-    }
-    let need = tape_words::words_for(product_need(order));
-    if tape < need {
-        return Err(Refusal::Tape);
-    }
-    Ok(Count { taken: need })
+    let d = Order::served(order)?;
+    factors_tested(room, d, left, right, tape, output)
 }
 
 // Row i of the pairs and its running sums, on rows of its own. Answers with how many bytes were drawn.
@@ -77,15 +88,16 @@ fn product_row(
 }
 
 // All pairs, in the order of the draws, into the sums, which have their starts. Answers with how many bytes were drawn.
-fn take_pairs(tables: &Tables, d: usize, a: &[u8], b: &[u8], tape: &[u8], sums: &mut [u8]) -> usize
+fn take_pairs(tables: &Tables, d: Order, a: &[u8], b: &[u8], tape: &[u8], sums: &mut [u8]) -> usize
     requires { FactorsFit d a.now b.now tape.now × (sums.old ≡ Steps.starts a.now b.now (suc d)) }
     ensures { (result ≡ Place.product_need d)
         × (sums.new ≡ Place.product Field.times d a.now b.now tape.now) }
 {
     // Kept: the place on the tape is counted. Row i has d - i pairs, so no chunks of one length are the rows.
     let mut drawn: usize = 0;
-    for i in 0..d {
-        drawn += product_row(tables, i, d - i, a, b, &tape[drawn..], sums);
+    let last = d.number();
+    for i in 0..last {
+        drawn += product_row(tables, i, last - i, a, b, &tape[drawn..], sums);
     }
     drawn
 }
@@ -93,7 +105,7 @@ fn take_pairs(tables: &Tables, d: usize, a: &[u8], b: &[u8], tape: &[u8], sums: 
 // The product's shares. Answers with how many bytes were drawn.
 pub fn product_core(
     tables: &Tables,
-    d: usize,
+    d: Order,
     a: &[u8],
     b: &[u8],
     tape: &[u8],
@@ -103,14 +115,14 @@ pub fn product_core(
     ensures { (result ≡ Place.product_need d)
         × (output.new ≡ Place.product Field.times d a.now b.now tape.now) }
 {
-    crate::steps::start_sums(tables, d + 1, a, b, output);
+    crate::steps::start_sums(tables, d.shares(), a, b, output);
     take_pairs(tables, d, a, b, tape, output)
 }
 
 // The same on a tape of words. Answers with how many words were drawn.
 fn product_on_words(
     tables: &Tables,
-    d: usize,
+    d: Order,
     a: &[u8],
     b: &[u8],
     tape: &[u32],
@@ -135,9 +147,10 @@ pub fn masked_product(
     ensures { outcome result output.new
         ≡ product_outcome order left.now right.now tape.now output.old }
 {
-    factors_answer(
-        outcomes::asked::share_count(order),
-        order,
+    let d = Order::served(order)?;
+    factors_tested(
+        d.shares(),
+        d,
         left.len(),
         right.len(),
         tape.len(),
@@ -145,6 +158,6 @@ pub fn masked_product(
     )?;
     let tables = Tables::new();
     Ok(Count {
-        taken: product_on_words(&tables, order, left, right, tape, output),
+        taken: product_on_words(&tables, d, left, right, tape, output),
     })
 }

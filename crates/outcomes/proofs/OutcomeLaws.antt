@@ -1,6 +1,6 @@
 -- What the tests of a call decide: one induction over their list gives its answer, and what a call that was let through may rely on.
 -- Assumes nothing.
-use mathlib.Core.Path.{◌≡◌, refl, sym, ap, ap₂, ◌∙◌}
+use mathlib.Core.Path.{◌≡◌, refl, sym, ap, ap₂, ◌∙◌, subst}
 use mathlib.Core.Bool.{Bool, true, false, cond, not}
 use mathlib.Core.List.{List, [], ◌∷◌}
 use Prim.Native.Nat.{ℕ, ◌≤◌, ◌<◌}
@@ -12,9 +12,9 @@ use Rattle.outcomes.specs.declared.Refusal.{Refusal}
 use Rattle.outcomes.specs.declared.Refusal.TheVariants.{Order, Key, Input, Output, Tape, List as Listed, Place}
 use Rattle.outcomes.specs.declared.Count.{Count}
 use Rattle.outcomes.specs.Outcome.{Answer}
-use Rattle.std.specs.Prelude.{Ok, Err, IsErrAnd}
+use Rattle.std.specs.Prelude.{Result, Ok, Err, IsErrAnd}
 use Rattle.std.proofs.lemmas.Result.{err_from_is_err_and}
-use Rattle.outcomes.specs.Outcome.{done, refused, number, outcome, Test, test, answered, ended, settled, served, reaches}
+use Rattle.outcomes.specs.Outcome.{done, refused, number, outcome, Test, test, answered, ended, settled, served, order_served, reaches}
 
 never : (r : Refusal) (k : Count) → Err r ≡ Ok k → ⊥
 never r k e = let z : ◌≡◌ {A = ℕ} 0 1 = cc in omega arith
@@ -165,6 +165,42 @@ served_bounds d e =
     let low = ltb-true 0 d h.0 in
     let high = ltb-true d 9 h.1 in
     (omega arith, omega arith)
+
+-- what is known of an order that was found to be served, and of one that was not
+pub order_served-ok : (order d : ℕ) → order_served order ≡ Ok d → (order ≡ d) × (served d ≡ true)
+unfolding order_served
+order_served-ok order d e = go (served order) refl e
+  where
+    go : (b : Bool) → served order ≡ b → ◌≡◌ {A = Result ℕ Refusal} (cond b (Ok order) (Err Order)) (Ok d) → (order ≡ d) × (served d ≡ true)
+    go true p e = let z : order ≡ d = cc in (z, sym (ap served z) ∙ p)
+    go false p e = absurd (cc)
+
+pub order_served-err : (order : ℕ) (r : Refusal) → order_served order ≡ Err r → (served order ≡ false) × (r ≡ Order)
+unfolding order_served
+order_served-err order r e = go (served order) refl e
+  where
+    go : (b : Bool) → served order ≡ b → ◌≡◌ {A = Result ℕ Refusal} (cond b (Ok order) (Err Order)) (Err r) → (served order ≡ false) × (r ≡ Order)
+    go true p e = absurd (cc)
+    go false p e = (p, cc)
+
+-- the answer of all tests, where the order is not served, and from that of the tests behind its own
+pub answered-unserved : (order : ℕ) (ts : List Test) (k : Count) (r : Refusal) → order_served order ≡ Err r
+    → (q : Answer) → IsErrAnd q (λ s. s ≡ r) → q ≡ answered (test Order (served order) ∷ ts) k
+answered-unserved order ts k r e q h =
+    let n = order_served-err order r e in handed_up q r h ∙ ap Err n.1 ∙ answered_here Order (served order) ts k n.0
+
+pub answered-served : (order d : ℕ) (ts : ℕ → List Test) (k : ℕ → Count) (a : Answer) → order_served order ≡ Ok d
+    → a ≡ answered (ts d) (k d) → a ≡ answered (test Order (served order) ∷ ts order) (k order)
+answered-served order d ts k a e f =
+    let n = order_served-ok order d e in
+    subst (λ (o : ℕ). a ≡ answered (test Order (served o) ∷ ts o) (k o)) (sym n.0) (answered_next Order (served d) (ts d) (k d) n.1 f)
+
+-- the exit of the `?` behind it: the call is refused
+pub settled-unserved : (order : ℕ) (ts : List Test) (k : Count) (o made : List ℕ) (r : Refusal) → order_served order ≡ Err r
+    → (q : Answer) → IsErrAnd q (λ s. s ≡ r) → outcome q o ≡ settled (test Order (served order) ∷ ts) k o made
+settled-unserved order ts k o made r e q h =
+    let n = order_served-err order r e in
+    settled-handed (test Order (served order) ∷ ts) k o made (Err Order) (answered_here Order (served order) ts k n.0) r (ap Err (sym n.1)) q h
 
 pub reaches_le : (t n : ℕ) → reaches t n ≡ true → n ≤ t
 reaches_le t n e = go (ltb t n) refl e

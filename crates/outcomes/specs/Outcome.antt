@@ -64,6 +64,10 @@ settled ts k o made = ended (answered ts k) o made
 unfoldable pub served : (order : ℕ) → Bool
 served d = ltb 0 d && ltb d 9
 
+-- the order of a call, if it is served; else the call's refusal
+unfoldable pub order_served : (order : ℕ) → Result ℕ Refusal
+order_served d = cond (served d) (Ok d) (Err Order)
+
 -- the tape has as many bytes as the call draws
 abbrev pub reaches : (tape need : ℕ) → Bool
 reaches t n = not (ltb t n)

@@ -1,5 +1,5 @@
 // What the tests of a call ask, on numbers alone. Each routine's own tests stand beside it, in the order of document 01's table.
-ghost use Rattle.std.specs.Prelude.{◌≡◌, true, suc, ◌≤◌};
+ghost use Rattle.std.specs.Prelude.{◌≡◌, ◌≤◌};
 ghost use Rattle.outcomes.specs.Outcome;
 
 // Whether the order is one of 1 to 8. It is tested on the raw number, before order + 1 is formed.
@@ -10,16 +10,6 @@ pub fn served(order: usize) -> bool
         return order < 9;
     }
     false
-}
-
-// How many shares a byte has at that order, and 0 where the order is not served.
-pub fn share_count(order: usize) -> usize
-    ensures { (Outcome.served order ≡ true → result ≡ suc order) × (result ≤ 9) }
-{
-    if served(order) {
-        return order + 1;
-    }
-    0
 }
 
 // Which of the listed lengths one of n shares has, in a string of so many bytes, if any.

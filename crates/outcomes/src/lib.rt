@@ -6,6 +6,9 @@ ghost use Rattle.std.specs.Prelude.{◌≡◌};
 ghost use Rattle.outcomes.specs.Outcome;
 
 pub mod asked;
+pub mod order;
+
+pub use order::Order;
 
 // Why a call is refused. Document 01 numbers them 1 to 7, in this order.
 #[derive(Clone, Copy, Debug, PartialEq, Eq)]

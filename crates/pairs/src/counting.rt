@@ -2,21 +2,21 @@
 ghost use Rattle.std.specs.Prelude.{◌≡◌, suc, ◌*◌, ◌≤◌};
 ghost use Rattle.xor.specs.Pairs as Pairs;
 
+use outcomes::Order;
+
 // The most there are, at order 8.
 pub const MOST: usize = 36;
 
 // How many the n shares of order d have.
-pub fn pair_count(d: usize) -> usize
-    requires { d ≤ 8 }
-    ensures { result ≡ Pairs.pair_count (suc d) }
+pub fn pair_count(d: Order) -> usize
+    ensures { (result ≡ Pairs.pair_count (suc d)) × (result ≤ 36) }
 {
-    d * (d + 1) / 2
+    d.number() * d.shares() / 2
 }
 
 // How many products of two shares a masked product of order d has: each share of one factor times each of the other.
-pub fn product_count(d: usize) -> usize
-    requires { d ≤ 8 }
+pub fn product_count(d: Order) -> usize
     ensures { (result ≡ suc d * suc d) × (result ≤ 81) }
 {
-    (d + 1) * (d + 1)
+    d.shares() * d.shares()
 }

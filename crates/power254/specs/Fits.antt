@@ -5,16 +5,14 @@ use Rattle.isw.specs.Place.{product_need}
 use Rattle.refresh.specs.Refresh.{refresh_need}
 use Rattle.power254.specs.Power254.{stage_need, power_need}
 
--- what a power, refreshed, asks: the order, the shares before and after, and the tape
+-- what a power, refreshed, asks: the shares before and after, and the tape
 pub record RefreshedFits (d : ℕ) (x tape z : List ℕ) : Type 0 where
-  pub order : d ≤ 8
   pub input : length x ≡ suc d
   pub output : length z ≡ suc d
   pub drawn : refresh_need d ≤ length tape
 
 -- what the first stage asks: it makes a power (z), and a product (y)
 pub record FirstFits (d : ℕ) (x tape z y : List ℕ) : Type 0 where
-  pub order : d ≤ 8
   pub input : length x ≡ suc d
   pub power : length z ≡ suc d
   pub output : length y ≡ suc d
@@ -22,7 +20,6 @@ pub record FirstFits (d : ℕ) (x tape z y : List ℕ) : Type 0 where
 
 -- what the last stage asks: three products
 pub record LastFits (d : ℕ) (y w z tape out : List ℕ) : Type 0 where
-  pub order : d ≤ 8
   pub long_y : length y ≡ suc d
   pub long_w : length w ≡ suc d
   pub long_z : length z ≡ suc d
@@ -31,7 +28,6 @@ pub record LastFits (d : ℕ) (y w z tape out : List ℕ) : Type 0 where
 
 -- what the second and the last stage ask together
 pub record LaterFits (d : ℕ) (z y tape out : List ℕ) : Type 0 where
-  pub order : d ≤ 8
   pub long_z : length z ≡ suc d
   pub long_y : length y ≡ suc d
   pub output : length out ≡ suc d
@@ -39,6 +35,5 @@ pub record LaterFits (d : ℕ) (z y tape out : List ℕ) : Type 0 where
 
 -- what power 254 asks
 pub record PowerFits (d : ℕ) (x tape : List ℕ) : Type 0 where
-  pub order : d ≤ 8
   pub long : length x ≡ suc d
   pub drawn : power_need d ≤ length tape

@@ -8,6 +8,7 @@ ghost use Rattle.power254.specs.Power254;
 ghost use Rattle.power254.specs.Fits.{RefreshedFits, FirstFits, LastFits, LaterFits, PowerFits};
 
 use gf256::{Exponent, Tables};
+use outcomes::Order;
 
 // Each share of x to the power that is named, into z. The sheet of the cube takes its squares from here too.
 pub fn raise(tables: &Tables, which: Exponent, x: &[u8], z: &mut [u8])
@@ -23,7 +24,7 @@ pub fn raise(tables: &Tables, which: Exponent, x: &[u8], z: &mut [u8])
 fn raise_refreshed(
     tables: &Tables,
     which: Exponent,
-    d: usize,
+    d: Order,
     x: &[u8],
     tape: &[u8],
     z: &mut [u8],
@@ -39,7 +40,7 @@ fn raise_refreshed(
 // The first stage: z = x², refreshed, and y = z·x. Answers with how many bytes were drawn.
 fn first_stage(
     tables: &Tables,
-    d: usize,
+    d: Order,
     x: &[u8],
     tape: &[u8],
     z: &mut [u8],
@@ -56,7 +57,7 @@ fn first_stage(
 // The last stage: v = y·w; v¹⁶ into the output; v¹⁶·w back into v; and that times z. Answers with how many bytes were drawn.
 fn last_stage(
     tables: &Tables,
-    d: usize,
+    d: Order,
     y: &[u8],
     w: &[u8],
     z: &[u8],
@@ -69,7 +70,7 @@ fn last_stage(
         w.now z.now (drop (Place.product_need d) tape.now)) }
 {
     let mut room = [0u8; 9];
-    let n = d + 1;
+    let n = d.shares();
     let v = &mut room[0..n];
     let first = masking::product::product_core(tables, d, y, w, tape, v);
     raise(tables, Exponent::Sixteen, v, output);
@@ -81,7 +82,7 @@ fn last_stage(
 // The second stage, w = y⁴, refreshed, and the last. Answers with how many bytes were drawn.
 fn later_stages(
     tables: &Tables,
-    d: usize,
+    d: Order,
     z: &[u8],
     y: &[u8],
     tape: &[u8],
@@ -93,7 +94,7 @@ fn later_stages(
         (Power254.stage_w d y.now tape.now) z.now (drop (Power254.stage_need d) tape.now)) }
 {
     let mut room = [0u8; 9];
-    let n = d + 1;
+    let n = d.shares();
     let w = &mut room[0..n];
     let drawn = raise_refreshed(tables, Exponent::Four, d, y, tape, w);
     drawn + last_stage(tables, d, y, w, z, &tape[drawn..], output)
@@ -101,13 +102,13 @@ fn later_stages(
 
 // Power 254 of the shares of a byte, in place. Answers with how many bytes were drawn. The tape's slice is copied before anything is written: the
 // compiler then hands it over in registers.
-pub fn power_core(tables: &Tables, d: usize, tape: &[u8], x: &mut [u8]) -> usize
+pub fn power_core(tables: &Tables, d: Order, tape: &[u8], x: &mut [u8]) -> usize
     requires { PowerFits d x.old tape.now }
     ensures { (result ≡ Power254.power_need d) × (x.new ≡ Power254.power_254 d x.old tape.now) }
 {
     let mut squares = [0u8; 9];
     let mut cubes = [0u8; 9];
-    let n = d + 1;
+    let n = d.shares();
     let t = &tape[..];
     let z = &mut squares[0..n];
     let y = &mut cubes[0..n];

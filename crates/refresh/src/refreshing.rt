@@ -9,12 +9,11 @@ ghost use Rattle.tape_words.specs.Words.{bytes_of, words_for};
 ghost use Rattle.refresh.specs.Refresh;
 ghost use Rattle.refresh.specs.Calls.{refresh_outcome};
 
-use outcomes::{Answer, Count};
+use outcomes::{Answer, Count, Order};
 
 // How many bytes a refresh of order d draws.
-pub fn refresh_need(d: usize) -> usize
-    requires { d ≤ 8 }
-    ensures { result ≡ Refresh.refresh_need d }
+pub fn refresh_need(d: Order) -> usize
+    ensures { (result ≡ Refresh.refresh_need d) × (result ≤ 36) }
 {
     pairs::counting::pair_count(d)
 }
@@ -31,22 +30,23 @@ pub fn refresh_row(i: usize, w: usize, tape: &[u8], own: &mut [u8], x: &mut [u8]
 }
 
 // The refresh of the shares of a byte, row by row of the pairs. Answers with how many bytes were drawn.
-pub fn refresh_core(d: usize, tape: &[u8], x: &mut [u8]) -> usize
-    requires { (d ≤ 8) × (d < length x.old) × (Refresh.refresh_need d ≤ length tape.now) }
+pub fn refresh_core(d: Order, tape: &[u8], x: &mut [u8]) -> usize
+    requires { (d < length x.old) × (Refresh.refresh_need d ≤ length tape.now) }
     ensures { (result ≡ Refresh.refresh_need d) × (x.new ≡ Refresh.refreshed d x.old tape.now) }
 {
     let mut own = [0u8; 8];
     let mut drawn: usize = 0;
     // Kept: the place on the tape is counted. Each row draws a byte fewer than the one before, so no chunks of one length are the rows.
-    for i in 0..d {
-        drawn += refresh_row(i, d - i, &tape[drawn..], &mut own, x);
+    let last = d.number();
+    for i in 0..last {
+        drawn += refresh_row(i, last - i, &tape[drawn..], &mut own, x);
     }
     drawn
 }
 
 // The same on a tape of words. Answers with how many words were drawn.
-fn refresh_on_words(d: usize, tape: &[u32], x: &mut [u8]) -> usize
-    requires { (d ≤ 8) × (d < length x.old) × (words_for (Refresh.refresh_need d) ≤ length tape.now) }
+fn refresh_on_words(d: Order, tape: &[u32], x: &mut [u8]) -> usize
+    requires { (d < length x.old) × (words_for (Refresh.refresh_need d) ≤ length tape.now) }
     ensures { (result ≡ words_for (Refresh.refresh_need d))
         × (x.new ≡ Refresh.refreshed d x.old (bytes_of tape.now)) }
 {
@@ -59,9 +59,10 @@ pub fn refresh(order: usize, input: &[u8], tape: &[u32], output: &mut [u8]) -> A
     ensures { outcome result output.new
         ≡ refresh_outcome order input.now tape.now output.old }
 {
-    shares::answers::byte_answer(1, order, input.len(), tape.len(), output.len())?;
+    let d = Order::served(order)?;
+    shares::answers::byte_tested(1, d, input.len(), tape.len(), output.len())?;
     shares::bytes::put(input, output);
     Ok(Count {
-        taken: refresh_on_words(order, tape, output),
+        taken: refresh_on_words(d, tape, output),
     })
 }

@@ -21,7 +21,6 @@ pub record RowFits (i w : ℕ) (tape shares out : List ℕ) : Type 0 where
 
 -- a whole refresh, and room for three bytes of each pair
 pub record RefreshFits (d : ℕ) (tape shares out : List ℕ) : Type 0 where
-  pub order : d ≤ 8
   pub long : length shares ≡ suc d
   pub drawn : refresh_need d ≤ length tape
   pub room : 3 * refresh_need d ≤ length out

@@ -11,6 +11,8 @@ ghost use Rattle.refresh.specs.Places.{refresh_sheet};
 ghost use Rattle.refresh_sheets.specs.Fits.{ThreeFit, RowFits, RefreshFits};
 ghost use Rattle.refresh_sheets.specs.Parts.{three_rows, row_sheet};
 
+use outcomes::Order;
+
 // Three bytes, over the front of out. It is a call of its own in the built library too: inlined, the loop over pairs becomes one over vectors, in
 // whose registers bytes of two places are ORed.
 #[inline(never)]
@@ -48,14 +50,15 @@ fn sheet_row(i: usize, w: usize, tape: &[u8], x: &mut [u8], out: &mut [u8]) -> u
 }
 
 // The refresh of the shares of a byte, and its bytes over the front of out. Answers with how many bytes were drawn.
-pub fn refresh_shown(d: usize, tape: &[u8], x: &mut [u8], out: &mut [u8]) -> usize
+pub fn refresh_shown(d: Order, tape: &[u8], x: &mut [u8], out: &mut [u8]) -> usize
     requires { RefreshFits d tape.now x.old out.old }
     ensures { (result ≡ Refresh.refresh_need d) × (x.new ≡ Refresh.refreshed d x.old tape.now)
         × (out.new ≡ front (refresh_sheet d x.old tape.now) out.old) }
 {
     let mut drawn: usize = 0;
-    for i in 0..d {
-        drawn += sheet_row(i, d - i, &tape[drawn..], x, &mut out[3 * drawn..]);
+    let last = d.number();
+    for i in 0..last {
+        drawn += sheet_row(i, last - i, &tape[drawn..], x, &mut out[3 * drawn..]);
     }
     drawn
 }

@@ -25,12 +25,6 @@ use Rattle.rounds.proofs.RoundLaws.{state_shape}
 
 -- ---- the loop
 
--- so many bytes can be counted
-pub rounds_bound : (nr d : ℕ) → nr ≤ 14 → d ≤ 8 → nr * round_need d ≤ 14 * (16 * box_most)
-rounds_bound nr d h g =
-    let n : round_need d ≤ 16 * box_most = omega (arith, round_need_is d, box_need_bound d g) in
-    mul-le-mul h n
-
 -- round i keeps the shape of the state
 pub round_keeps : (w : Direction) (d m nr i : ℕ) (keys : List ℕ) → 16 * nr + 16 ≤ m → length keys ≡ suc d * m → i < suc nr
     → (s : Shares) (ts : List ℕ) → Shared 16 d s → Shared 16 d (round_of w (eqb i nr) d (key_of w nr i) (parts (suc d) m keys) s ts)

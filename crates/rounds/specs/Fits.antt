@@ -6,7 +6,6 @@ use Rattle.cipher.specs.Cipher.{round_need, encrypted_with_need}
 
 -- what one round asks: the order, and the lengths of keys, tape and state
 pub record RoundFits (d m r : ℕ) (keys tape s : List ℕ) : Type 0 where
-  pub order : d ≤ 8
   pub round : 16 * r + 16 ≤ m
   pub keyed : length keys ≡ suc d * m
   pub drawn : round_need d ≤ length tape
@@ -14,7 +13,6 @@ pub record RoundFits (d m r : ℕ) (keys tape s : List ℕ) : Type 0 where
 
 -- the same for nr rounds, with round keys 0 to nr
 pub record RoundsFit (d m nr : ℕ) (keys tape s : List ℕ) : Type 0 where
-  pub order : d ≤ 8
   pub small : nr ≤ 14
   pub round : 16 * nr + 16 ≤ m
   pub keyed : length keys ≡ suc d * m
@@ -23,7 +21,6 @@ pub record RoundsFit (d m nr : ℕ) (keys tape s : List ℕ) : Type 0 where
 
 -- what a block from round keys asks
 pub record KeyedFits (nk d : ℕ) (keys x tape out : List ℕ) : Type 0 where
-  pub order : d ≤ 8
   pub small : nk ≤ 8
   pub keyed : length keys ≡ suc d * (16 * suc (rounds nk))
   pub input : length x ≡ suc d * 16

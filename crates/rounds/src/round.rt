@@ -10,6 +10,7 @@ ghost use Rattle.rounds.specs.Directions.{shifted_of, keyed_of};
 
 use gf256::{Direction, Tables};
 use linear::Step;
+use outcomes::Order;
 
 // Which round key is added i-th, from 0 on.
 pub fn key_number(which: Direction, nr: usize, i: usize) -> usize
@@ -26,11 +27,11 @@ pub fn key_number(which: Direction, nr: usize, i: usize) -> usize
 fn sub_and_shift(
     tables: &Tables,
     which: Direction,
-    d: usize,
+    d: Order,
     tape: &[u32],
     s: &mut [u8],
 ) -> usize
-    requires { (d ≤ 8) × (round_need d ≤ length (bytes_of tape.now)) × (length s.old ≡ suc d * 16) }
+    requires { (round_need d ≤ length (bytes_of tape.now)) × (length s.old ≡ suc d * 16) }
     ensures { (4 * result ≡ round_need d)
         × (s.new ≡ laid (shifted_of which d (parts (suc d) 16 s.old) (bytes_of tape.now))) }
 {
@@ -54,8 +55,8 @@ fn sub_and_shift(
 }
 
 // MixColumns, then AddRoundKey; in decryption AddRoundKey, then InvMixColumns.
-fn mix_and_add(which: Direction, d: usize, m: usize, r: usize, keys: &[u8], s: &mut [u8])
-    requires { (d ≤ 8) × (16 * r + 16 ≤ m) × (length keys.now ≡ suc d * m) × (length s.old ≡ suc d * 16) }
+fn mix_and_add(which: Direction, d: Order, m: usize, r: usize, keys: &[u8], s: &mut [u8])
+    requires { (16 * r + 16 ≤ m) × (length keys.now ≡ suc d * m) × (length s.old ≡ suc d * 16) }
     ensures { s.new
         ≡ laid (keyed_of which r (parts (suc d) m keys.now) (parts (suc d) 16 s.old)) }
 {
@@ -76,7 +77,7 @@ pub fn make_round(
     tables: &Tables,
     which: Direction,
     last: bool,
-    d: usize,
+    d: Order,
     m: usize,
     r: usize,
     keys: &[u8],

@@ -9,13 +9,14 @@ ghost use Rattle.rounds.specs.Fits.{RoundsFit, KeyedFits};
 ghost use Rattle.rounds.specs.Directions.{with_of};
 
 use gf256::{Direction, Tables};
+use outcomes::Order;
 
 // The nr rounds. Answers with how many words were drawn.
 fn run_rounds(
     tables: &Tables,
     which: Direction,
     nr: usize,
-    d: usize,
+    d: Order,
     m: usize,
     keys: &[u8],
     tape: &[u32],
@@ -52,7 +53,7 @@ pub fn rounds_core(
     tables: &Tables,
     which: Direction,
     nk: usize,
-    d: usize,
+    d: Order,
     keys: &[u8],
     input: &[u8],
     tape: &[u32],

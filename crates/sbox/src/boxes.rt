@@ -1,5 +1,5 @@
 // The masked S-box: power 254, then the affine map over shares. The masked inverse S-box: the inverse affine map over shares, then power 254.
-ghost use Rattle.std.specs.Prelude.{◌≡◌, map, ◌%◌, ◌≤◌, ◌<◌, length};
+ghost use Rattle.std.specs.Prelude.{◌≡◌, map, suc, ◌%◌, ◌≤◌, ◌<◌, length};
 ghost use Rattle.gf256.specs.Directions.{affine_of, constant_of};
 ghost use Rattle.tape_words.specs.Words.{bytes_of, words_for};
 ghost use Rattle.outcomes.specs.Outcome.{outcome};
@@ -8,37 +8,37 @@ ghost use Rattle.power254.specs.Fits.{PowerFits};
 ghost use Rattle.sbox.specs.Calls.{box_outcome};
 
 use gf256::{Direction, Tables};
-use outcomes::{Answer, Count};
+use outcomes::{Answer, Count, Order};
 
 // The affine map of each share. The shares are taken by a list of their numbers: a compiler that does not know them for neighbours has no use for
 // a register with two of them in it, whose shifts would bring bits of the one into the other's byte (the rule at the head of masking's steps.rt).
-fn affine_all(which: Direction, x: &mut [u8])
-    requires { length x.old ≤ 9 }
+fn affine_all(which: Direction, d: Order, x: &mut [u8])
+    requires { length x.old ≡ suc d }
     ensures { x.new ≡ map (affine_of which) x.old }
 {
     let numbers = [0u8, 1, 2, 3, 4, 5, 6, 7, 8];
-    for number in &numbers[..x.len()] {
+    for number in &numbers[..d.shares()] {
         let i = usize::from(*number);
         x[i] = byte_maps::affine(which, x[i]);
     }
 }
 
 // n affine maps XORed the constant in n times: once more if that was an even number of times.
-fn correct(which: Direction, d: usize, x: &mut [u8])
+fn correct(which: Direction, d: Order, x: &mut [u8])
     requires { 0 < length x.old }
     ensures { x.new ≡ Box.corrected (constant_of which) (d % 2) x.old }
 {
-    if d % 2 == 1 {
+    if d.number() % 2 == 1 {
         x[0] = x[0] ^ byte_maps::constant(which);
     }
 }
 
 // The affine map of a byte in shares.
-fn affine_shares(which: Direction, d: usize, x: &mut [u8])
-    requires { (0 < length x.old) × (length x.old ≤ 9) }
+fn affine_shares(which: Direction, d: Order, x: &mut [u8])
+    requires { length x.old ≡ suc d }
     ensures { x.new ≡ Box.affine_shares which d x.old }
 {
-    affine_all(which, x);
+    affine_all(which, d, x);
     correct(which, d, x);
 }
 
@@ -46,23 +46,21 @@ fn affine_shares(which: Direction, d: usize, x: &mut [u8])
 pub const MOST: usize = 6 * pairs::counting::MOST;
 
 // How many bytes either S-box of order d draws: two refreshes and four products draw a byte for each pair.
-pub fn box_need(d: usize) -> usize
-    requires { d ≤ 8 }
-    ensures { result ≡ Box.box_need d }
+pub fn box_need(d: Order) -> usize
+    ensures { (result ≡ Box.box_need d) × (result ≤ 216) }
 {
     6 * pairs::counting::pair_count(d)
 }
 
 // How many field products either S-box of order d does: four masked products.
-pub fn box_products(d: usize) -> usize
-    requires { d ≤ 8 }
+pub fn box_products(d: Order) -> usize
     ensures { (result ≡ Box.box_products d) × (result ≤ 324) }
 {
     4 * pairs::counting::product_count(d)
 }
 
 // The S-box of the shares of a byte, in place. Answers with how many bytes were drawn.
-fn box_core(tables: &Tables, d: usize, tape: &[u8], x: &mut [u8]) -> usize
+fn box_core(tables: &Tables, d: Order, tape: &[u8], x: &mut [u8]) -> usize
     requires { PowerFits d x.old tape.now }
     ensures { (result ≡ Box.box_need d) × (x.new ≡ Box.box d x.old tape.now) }
 {
@@ -72,7 +70,7 @@ fn box_core(tables: &Tables, d: usize, tape: &[u8], x: &mut [u8]) -> usize
 }
 
 // The inverse S-box, in the same way.
-fn inverse_box_core(tables: &Tables, d: usize, tape: &[u8], x: &mut [u8]) -> usize
+fn inverse_box_core(tables: &Tables, d: Order, tape: &[u8], x: &mut [u8]) -> usize
     requires { PowerFits d x.old tape.now }
     ensures { (result ≡ Box.box_need d) × (x.new ≡ Box.inverse_box d x.old tape.now) }
 {
@@ -84,7 +82,7 @@ fn inverse_box_core(tables: &Tables, d: usize, tape: &[u8], x: &mut [u8]) -> usi
 pub fn box_of(
     tables: &Tables,
     which: Direction,
-    d: usize,
+    d: Order,
     tape: &[u8],
     x: &mut [u8],
 ) -> usize
@@ -98,7 +96,7 @@ pub fn box_of(
 }
 
 // The S-box on a tape of words. Answers with how many words were drawn.
-fn box_on_words(tables: &Tables, d: usize, tape: &[u32], x: &mut [u8]) -> usize
+fn box_on_words(tables: &Tables, d: Order, tape: &[u32], x: &mut [u8]) -> usize
     requires { PowerFits d x.old (bytes_of tape.now) }
     ensures { (result ≡ words_for (Box.box_need d))
         × (x.new ≡ Box.box d x.old (bytes_of tape.now)) }
@@ -112,10 +110,11 @@ pub fn masked_box(order: usize, input: &[u8], tape: &[u32], output: &mut [u8]) -
     ensures { outcome result output.new
         ≡ box_outcome order input.now tape.now output.old }
 {
-    shares::answers::byte_answer(6, order, input.len(), tape.len(), output.len())?;
+    let d = Order::served(order)?;
+    shares::answers::byte_tested(6, d, input.len(), tape.len(), output.len())?;
     shares::bytes::put(input, output);
     let tables = Tables::new();
     Ok(Count {
-        taken: box_on_words(&tables, order, tape, output),
+        taken: box_on_words(&tables, d, tape, output),
     })
 }

@@ -26,7 +26,6 @@ written d total i keys = map (take (4 * i)) (parts (suc d) (4 * total) keys)
 
 -- to store a word: its number, and the length of the keys
 pub record StoreFits (nk d m i : ℕ) (keys : List ℕ) : Type 0 where
-  pub order : d ≤ 8
   pub some : 1 ≤ nk
   pub past : nk ≤ i
   pub room : 4 * i + 4 ≤ m
@@ -34,14 +33,12 @@ pub record StoreFits (nk d m i : ℕ) (keys : List ℕ) : Type 0 where
 
 -- for the temporary word where i is a multiple of nk, the j-th
 pub record TurnedFits (d j : ℕ) (tape t : List ℕ) : Type 0 where
-  pub order : d ≤ 8
   pub some : 1 ≤ j
   pub long : length t ≡ suc d * 4
   pub drawn : subs_need d in_word ≤ length tape
 
 -- for the temporary word of word i
 pub record TempFits (nk d i : ℕ) (tape t : List ℕ) : Type 0 where
-  pub order : d ≤ 8
   pub some : 1 ≤ nk
   pub past : nk ≤ i
   pub long : length t ≡ suc d * 4
@@ -49,7 +46,6 @@ pub record TempFits (nk d i : ℕ) (tape t : List ℕ) : Type 0 where
 
 -- for word i
 pub record WordFits (nk d m i : ℕ) (keys tape : List ℕ) : Type 0 where
-  pub order : d ≤ 8
   pub some : 1 ≤ nk
   pub past : nk ≤ i
   pub room : 4 * i + 4 ≤ m
@@ -58,7 +54,6 @@ pub record WordFits (nk d m i : ℕ) (keys tape : List ℕ) : Type 0 where
 
 -- for all words up to the total
 pub record ExpandFits (nk d total : ℕ) (keys tape : List ℕ) : Type 0 where
-  pub order : d ≤ 8
   pub some : 1 ≤ nk
   pub past : nk ≤ total
   pub small : total ≤ 60
@@ -67,7 +62,6 @@ pub record ExpandFits (nk d total : ℕ) (keys tape : List ℕ) : Type 0 where
 
 -- for the whole, from a key
 pub record ExpansionFits (nk d : ℕ) (key keys tape : List ℕ) : Type 0 where
-  pub order : d ≤ 8
   pub some : 1 ≤ nk
   pub small : nk ≤ 8
   pub long : length key ≡ suc d * (4 * nk)

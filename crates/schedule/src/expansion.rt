@@ -7,13 +7,14 @@ ghost use Rattle.schedule.specs.Stored.{written, ExpandFits, ExpansionFits};
 
 use buffers::each::each_share;
 use gf256::Tables;
+use outcomes::Order;
 use shares::bytes::put;
 
 // All words from nk on, ascending. Answers with how many words were drawn.
 fn expand(
     tables: &Tables,
     nk: usize,
-    d: usize,
+    d: Order,
     total: usize,
     tape: &[u32],
     keys: &mut [u8],
@@ -33,8 +34,8 @@ fn expand(
 }
 
 // Each share of the key, of l bytes, to the front of each share of the buffer, of m bytes.
-fn copy_key(d: usize, l: usize, m: usize, key: &[u8], keys: &mut [u8])
-    requires { (d ≤ 8) × (l ≤ m) × (length key.now ≡ suc d * l) × (length keys.old ≡ suc d * m) }
+fn copy_key(d: Order, l: usize, m: usize, key: &[u8], keys: &mut [u8])
+    requires { (l ≤ m) × (length key.now ≡ suc d * l) × (length keys.old ≡ suc d * m) }
     ensures { map (take l) (parts (suc d) m keys.new) ≡ parts (suc d) l key.now }
 {
     each_share(d, m, keys, |i, share| {
@@ -47,7 +48,7 @@ fn copy_key(d: usize, l: usize, m: usize, key: &[u8], keys: &mut [u8])
 pub fn expand_core(
     tables: &Tables,
     nk: usize,
-    d: usize,
+    d: Order,
     key: &[u8],
     tape: &[u32],
     keys: &mut [u8],

@@ -11,6 +11,7 @@ ghost use Rattle.schedule.specs.Stored.{stored, word_stored, StoreFits, TurnedFi
 
 use buffers::each::each_share;
 use gf256::Tables;
+use outcomes::Order;
 use shares::bytes::put;
 
 // The first byte of Rcon[j]: 02 to the power j - 1.
@@ -22,8 +23,8 @@ fn rcon(j: usize) -> u8
 }
 
 // Word w of each share.
-fn fetch(d: usize, m: usize, w: usize, keys: &[u8], t: &mut [u8])
-    requires { (d ≤ 8) × (4 * w + 4 ≤ m) × (length keys.now ≡ suc d * m) × (length t.old ≡ suc d * 4) }
+fn fetch(d: Order, m: usize, w: usize, keys: &[u8], t: &mut [u8])
+    requires { (4 * w + 4 ≤ m) × (length keys.now ≡ suc d * m) × (length t.old ≡ suc d * 4) }
     ensures { t.new ≡ laid (words (parts (suc d) m keys.now) w) }
 {
     each_share(d, 4, t, |i, word| {
@@ -45,7 +46,7 @@ fn store_word(nk: usize, i: usize, t: &[u8], k: &mut [u8])
 }
 
 // Word i of each share.
-fn store_all(nk: usize, d: usize, m: usize, i: usize, t: &[u8], keys: &mut [u8])
+fn store_all(nk: usize, d: Order, m: usize, i: usize, t: &[u8], keys: &mut [u8])
     requires { StoreFits nk d m i keys.old × (length t.now ≡ suc d * 4) }
     ensures { keys.new
         ≡ laid (each_by (stored nk i t.now) 0 (parts (suc d) m keys.old)) }
@@ -59,7 +60,7 @@ fn store_all(nk: usize, d: usize, m: usize, i: usize, t: &[u8], keys: &mut [u8])
 // The temporary word where i is a multiple of nk: S-boxes, RotWord, and Rcon into share 0. Answers with how many words were drawn.
 fn turned_temp(
     tables: &Tables,
-    d: usize,
+    d: Order,
     j: usize,
     tape: &[u32],
     t: &mut [u8],
@@ -78,7 +79,7 @@ fn turned_temp(
 fn make_temp(
     tables: &Tables,
     nk: usize,
-    d: usize,
+    d: Order,
     i: usize,
     tape: &[u32],
     t: &mut [u8],
@@ -103,7 +104,7 @@ fn make_temp(
 pub fn next_word(
     tables: &Tables,
     nk: usize,
-    d: usize,
+    d: Order,
     m: usize,
     i: usize,
     tape: &[u32],
@@ -114,7 +115,7 @@ pub fn next_word(
         × (keys.new ≡ word_stored nk d m i keys.old (bytes_of tape.now)) }
 {
     let mut room = [0u8; 36];
-    let n = (d + 1) * 4;
+    let n = d.shares() * 4;
     let t = &mut room[0..n];
     fetch(d, m, i - 1, keys, t);
     let drawn = make_temp(tables, nk, d, i, tape, t);

@@ -5,7 +5,6 @@ use Rattle.tape_words.specs.Words.{words_for}
 
 -- the tape is words, and has those that hold the masks
 pub record SplitFits (d : ℕ) (input tape output : List ℕ) : Type 0 where
-  pub order : d ≤ 8
   pub short : length input ≤ 32
   pub long : length output ≡ suc d * length input
   pub drawn : words_for (d * length input) ≤ length tape

@@ -6,12 +6,12 @@ ghost use Rattle.outcomes.specs.Outcome.{outcome, answered, took, share_length};
 ghost use Rattle.tape_words.specs.Words.{bytes_of, words_for};
 ghost use Rattle.shares.specs.Strings.{joined_string, parts, laid, split, split_need};
 ghost use Rattle.shares.specs.Fits.{SplitFits};
-ghost use Rattle.shares.specs.Calls.{split_tests, split_outcome};
+ghost use Rattle.shares.specs.Calls.{split_served, split_outcome};
 
-use outcomes::{Answer, Count, Refusal, asked};
+use outcomes::{Answer, Count, Order, Refusal, asked};
 
 // Share 0 over the front of out: the input with the first d parts of the tape XORed in. Answers with how many bytes were drawn.
-fn first_share(d: usize, input: &[u8], tape: &[u8], out: &mut [u8]) -> usize
+fn first_share(d: Order, input: &[u8], tape: &[u8], out: &mut [u8]) -> usize
     requires { (d * length input.now ≤ length tape.now) × (length input.now ≤ length out.old) }
     ensures { (result ≡ d * length input.now)
         × (out.new
@@ -23,7 +23,7 @@ fn first_share(d: usize, input: &[u8], tape: &[u8], out: &mut [u8]) -> usize
 }
 
 // Share 0, and behind it the drawn bytes as shares 1 to d. Answers with how many bytes were drawn.
-fn split_core(d: usize, input: &[u8], tape: &[u8], output: &mut [u8]) -> usize
+fn split_core(d: Order, input: &[u8], tape: &[u8], output: &mut [u8]) -> usize
     requires { (d * length input.now ≤ length tape.now) × (length output.old ≡ suc d * length input.now) }
     ensures { (result ≡ d * length input.now)
         × (output.new ≡ laid (split d input.now tape.now)) }
@@ -34,18 +34,15 @@ fn split_core(d: usize, input: &[u8], tape: &[u8], output: &mut [u8]) -> usize
     drawn
 }
 
-// The tests of a call, on the lengths of its buffers.
-fn split_answer(order: usize, input: usize, tape: usize, output: usize) -> Answer
-    ensures { result ≡ answered (split_tests order input tape output) (took (words_for (split_need order (share_length 1 input)))) }
+// The tests of a call behind that of its order, on the lengths of its buffers.
+fn split_answer(d: Order, input: usize, tape: usize, output: usize) -> Answer
+    ensures { result ≡ answered (split_served d input tape output) (took (words_for (split_need d (share_length 1 input)))) }
 {
-    if !asked::served(order) {
-        return Err(Refusal::Order);
-    }
     let l = asked::share_length(1, input).ok_or(Refusal::Input)?;
-    if output != (order + 1) * l {
+    if output != d.shares() * l {
         return Err(Refusal::Output);
     }
-    let need = tape_words::words_for(order * l);
+    let need = tape_words::words_for(d.number() * l);
     if tape < need {
         return Err(Refusal::Tape);
     }
@@ -53,13 +50,13 @@ fn split_answer(order: usize, input: usize, tape: usize, output: usize) -> Answe
 }
 
 // The same on a tape of words: at most 8 masks of 32 bytes. Answers with how many words were drawn.
-fn split_on_words(d: usize, input: &[u8], tape: &[u32], output: &mut [u8]) -> usize
+fn split_on_words(d: Order, input: &[u8], tape: &[u32], output: &mut [u8]) -> usize
     requires { SplitFits d input.now tape.now output.old }
     ensures { (result ≡ words_for (d * length input.now))
         × (output.new ≡ laid (split d input.now (bytes_of tape.now))) }
 {
     let mut drawn = [0u8; 256];
-    tape_words::unpack(d * input.len(), tape, &mut drawn);
+    tape_words::unpack(d.number() * input.len(), tape, &mut drawn);
     tape_words::words_for(split_core(d, input, &drawn, output))
 }
 
@@ -67,8 +64,9 @@ pub fn split(order: usize, input: &[u8], tape: &[u32], output: &mut [u8]) -> Ans
     ensures { outcome result output.new
         ≡ split_outcome order input.now tape.now output.old }
 {
-    split_answer(order, input.len(), tape.len(), output.len())?;
+    let d = Order::served(order)?;
+    split_answer(d, input.len(), tape.len(), output.len())?;
     Ok(Count {
-        taken: split_on_words(order, input, tape, output),
+        taken: split_on_words(d, input, tape, output),
     })
 }

@@ -13,31 +13,30 @@ ghost use Rattle.sheet_parts.specs.Parts.{pairs_before, sums_before, table_rows}
 ghost use Rattle.sheets.specs.Calls.{sheet_outcome};
 
 use gf256::Tables;
-use outcomes::{Answer, Count};
+use outcomes::{Answer, Count, Order};
 
 // P(d), how many places there are.
-pub fn place_count(d: usize) -> usize
-    requires { d ≤ 8 }
+pub fn place_count(d: Order) -> usize
     ensures { (result ≡ Place.place_count d) × (result ≤ 279) }
 {
-    let n = d + 1;
-    2 * n + 5 * (d * n / 2) + n * n
+    let n = d.shares();
+    2 * n + 5 * masking::product::product_need(d) + n * n
 }
 
 // P(d) where d is an order that is served, and 0 where it is not.
 pub fn sheet_size(order: usize) -> usize
     ensures { (Outcome.served order ≡ true → result ≡ Place.place_count order) × (result ≤ 279) }
 {
-    if outcomes::asked::served(order) {
-        return place_count(order);
+    match Order::served(order) {
+        Ok(d) => place_count(d),
+        Err(_) => 0,
     }
-    0
 }
 
 // All pairs, over the front of out, and all running sums, into the table, with room for n sums. Answers with how many bytes were drawn.
 fn sheet_rows(
     tables: &Tables,
-    d: usize,
+    d: Order,
     a: &[u8],
     b: &[u8],
     tape: &[u8],
@@ -52,17 +51,18 @@ fn sheet_rows(
         × (table_rows (suc d) table.new (suc d)
         ≡ sums_before (suc d) a.now b.now tape.now (suc d)) }
 {
-    let n = d + 1;
+    let n = d.shares();
     masking::steps::start_sums(tables, n, a, b, sums);
     sheet_parts::parts::put_starts(n, sums, table);
     // Kept: the places on the tape and in out are counted. Row i has d - i pairs, so no chunks of one length are the rows.
     let mut drawn: usize = 0;
-    for i in 0..d {
+    let last = d.number();
+    for i in 0..last {
         let at = 5 * drawn;
         drawn += sheet_parts::parts::sheet_row(
             tables,
             i,
-            d - i,
+            last - i,
             a,
             b,
             &tape[drawn..],
@@ -77,7 +77,7 @@ fn sheet_rows(
 // The whole sheet, with room for n sums and a table. Answers with how many bytes were drawn.
 fn sheet_with(
     tables: &Tables,
-    d: usize,
+    d: Order,
     a: &[u8],
     b: &[u8],
     tape: &[u8],
@@ -90,7 +90,7 @@ fn sheet_with(
     ensures { (result ≡ Place.product_need d)
         × (out.new ≡ Place.sheet Field.times d a.now b.now tape.now) }
 {
-    let n = d + 1;
+    let n = d.shares();
     shares::bytes::put(a, out);
     shares::bytes::put(b, &mut out[n..]);
     let pairs = 2 * n;
@@ -112,7 +112,7 @@ fn sheet_with(
 // The whole sheet. Answers with how many bytes were drawn.
 pub fn sheet_core(
     tables: &Tables,
-    d: usize,
+    d: Order,
     a: &[u8],
     b: &[u8],
     tape: &[u8],
@@ -124,7 +124,7 @@ pub fn sheet_core(
 {
     let mut sums = [0u8; 9];
     let mut table = [0u8; 81];
-    let n = d + 1;
+    let n = d.shares();
     sheet_with(
         tables,
         d,
@@ -140,7 +140,7 @@ pub fn sheet_core(
 // The same on a tape of words. Answers with how many words were drawn.
 fn sheet_on_words(
     tables: &Tables,
-    d: usize,
+    d: Order,
     a: &[u8],
     b: &[u8],
     tape: &[u32],
@@ -165,9 +165,10 @@ pub fn product_sheet(
     ensures { outcome result output.new
         ≡ sheet_outcome order left.now right.now tape.now output.old }
 {
-    masking::product::factors_answer(
-        sheet_size(order),
-        order,
+    let d = Order::served(order)?;
+    masking::product::factors_tested(
+        place_count(d),
+        d,
         left.len(),
         right.len(),
         tape.len(),
@@ -175,6 +176,6 @@ pub fn product_sheet(
     )?;
     let tables = Tables::new();
     Ok(Count {
-        taken: sheet_on_words(&tables, order, left, right, tape, output),
+        taken: sheet_on_words(&tables, d, left, right, tape, output),
     })
 }

@@ -15,14 +15,12 @@ in_row r = spaced r 4
 
 -- what the S-box of byte k asks of a string of l bytes in shares
 pub record PlaceFits (d l k : ℕ) (tape s : List ℕ) : Type 0 where
-  pub order : d ≤ 8
   pub place : k < l
   pub long : length s ≡ suc d * l
   pub drawn : box_need d ≤ length tape
 
 -- what four S-boxes ask, a quarter of the string apart
 pub record FourFits (d l first stride : ℕ) (tape s : List ℕ) : Type 0 where
-  pub order : d ≤ 8
   pub quarter : l ≡ 4 * stride
   pub place : first < stride
   pub small : l ≤ 16

@@ -9,12 +9,13 @@ ghost use Rattle.cipher.specs.Cipher.{sub_at, subs, subs_of, subs_need, by_rows,
 ghost use Rattle.substitution.specs.Boxes.{spaced, PlaceFits, FourFits};
 
 use gf256::{Direction, Tables};
+use outcomes::Order;
 
 // The S-box of byte k. Answers with how many bytes were drawn.
 fn sub_place(
     tables: &Tables,
     which: Direction,
-    d: usize,
+    d: Order,
     l: usize,
     k: usize,
     tape: &[u8],
@@ -25,7 +26,7 @@ fn sub_place(
         × (s.new ≡ laid (sub_at which d k (parts (suc d) l s.old) tape.now)) }
 {
     let mut room = [0u8; 9];
-    let n = d + 1;
+    let n = d.shares();
     let x = &mut room[0..n];
     crate::bytes::gather(d, l, k, s, x);
     let drawn = sbox::boxes::box_of(tables, which, d, tape, x);
@@ -38,7 +39,7 @@ fn sub_place(
 fn sub_spaced(
     tables: &Tables,
     which: Direction,
-    d: usize,
+    d: Order,
     l: usize,
     first: usize,
     stride: usize,
@@ -65,7 +66,7 @@ fn sub_spaced(
 fn sub_four(
     tables: &Tables,
     which: Direction,
-    d: usize,
+    d: Order,
     l: usize,
     first: usize,
     stride: usize,
@@ -85,11 +86,11 @@ fn sub_four(
 pub fn sub_rows(
     tables: &Tables,
     which: Direction,
-    d: usize,
+    d: Order,
     tape: &[u32],
     s: &mut [u8],
 ) -> usize
-    requires { (d ≤ 8) × (length s.old ≡ suc d * 16) × (subs_need d by_rows ≤ length (bytes_of tape.now)) }
+    requires { (length s.old ≡ suc d * 16) × (subs_need d by_rows ≤ length (bytes_of tape.now)) }
     ensures { (4 * result ≡ subs_need d by_rows)
         × (s.new ≡ laid (subs_of which d by_rows (parts (suc d) 16 s.old) (bytes_of tape.now))) }
 {
@@ -102,8 +103,8 @@ pub fn sub_rows(
 }
 
 // The S-boxes of a word. Answers with how many words were drawn.
-pub fn sub_word(tables: &Tables, d: usize, tape: &[u32], s: &mut [u8]) -> usize
-    requires { (d ≤ 8) × (length s.old ≡ suc d * 4) × (subs_need d in_word ≤ length (bytes_of tape.now)) }
+pub fn sub_word(tables: &Tables, d: Order, tape: &[u32], s: &mut [u8]) -> usize
+    requires { (length s.old ≡ suc d * 4) × (subs_need d in_word ≤ length (bytes_of tape.now)) }
     ensures { (4 * result ≡ subs_need d in_word)
         × (s.new ≡ laid (subs d in_word (parts (suc d) 4 s.old) (bytes_of tape.now))) }
 {

@@ -4,10 +4,11 @@ ghost use Rattle.shares.specs.Strings.{parts, laid};
 ghost use Rattle.cipher.specs.States.{column, put};
 
 use buffers::each::each_share;
+use outcomes::Order;
 
 // The shares of byte k.
-pub fn gather(d: usize, l: usize, k: usize, s: &[u8], x: &mut [u8])
-    requires { (d ≤ 8) × (k < l) × (length s.now ≡ suc d * l) × (length x.old ≡ suc d) }
+pub fn gather(d: Order, l: usize, k: usize, s: &[u8], x: &mut [u8])
+    requires { (k < l) × (length s.now ≡ suc d * l) × (length x.old ≡ suc d) }
     ensures { x.new ≡ column k (parts (suc d) l s.now) }
 {
     for (i, byte) in x.iter_mut().enumerate() {
@@ -16,8 +17,8 @@ pub fn gather(d: usize, l: usize, k: usize, s: &[u8], x: &mut [u8])
 }
 
 // New shares of byte k.
-pub fn scatter(d: usize, l: usize, k: usize, x: &[u8], s: &mut [u8])
-    requires { (d ≤ 8) × (k < l) × (length s.old ≡ suc d * l) × (length x.now ≡ suc d) }
+pub fn scatter(d: Order, l: usize, k: usize, x: &[u8], s: &mut [u8])
+    requires { (k < l) × (length s.old ≡ suc d * l) × (length x.now ≡ suc d) }
     ensures { s.new ≡ laid (put (parts (suc d) l s.old) k x.now) }
 {
     each_share(d, l, s, |i, share| share[k] = x[i]);

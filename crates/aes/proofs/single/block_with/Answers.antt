@@ -33,7 +33,6 @@ rounds_core-requires c =
     let fit = c.requires.0 in
     let drawn = c.expand_core-drawn.ensures.0 in
     record {
-      order = fit.order;
       small = fit.small;
       keyed = search rules;
       input = fit.input;

@@ -2,7 +2,6 @@
 use mathlib.Core.List.{List}
 use mathlib.Core.Path.{ap, ap₂, sym, ◌∙◌}
 use Prim.Native.Nat.{ℕ, ◌+◌, ◌*◌, ◌-◌}
-use native.Mathlib.Numerals.{add-one}
 use native.Mathlib.Omega.{arith}
 use lib.ListN.{length, take, drop}
 use Rattle.xor.proofs.WriteLaws.{length-part_first, length-part_rest}
@@ -13,17 +12,17 @@ use Rattle.cubes.proofs.cube.cube_core.Goals as goal
 
 pub factor_shown-drawn-requires : goal.factor_shown-drawn-requires
 factor_shown-drawn-requires c =
-    (c.requires.0, length-part_first _ _ (omega (arith, c.requires.0.order)) ∙ add-one _, c.requires.1)
+    (c.requires.0, length-part_first _ _ (omega (arith, c.shares-n.ensures.1)) ∙ c.shares-n.ensures.0, c.requires.1)
 
 pub overflow_mul-at : goal.overflow_mul-at
 overflow_mul-at c =
     let d = c.args.d in
-    omega (arith, c.factor_shown-drawn.ensures.0, cube_need-parts d, cube_need_bound d c.requires.0.order)
+    omega (arith, c.factor_shown-drawn.ensures.0, cube_need-parts d, cube_need_bound d (omega (arith, c.shares-n.ensures)), c.shares-n.ensures)
 
 pub overflow_add-at : goal.overflow_add-at
 overflow_add-at c =
     let d = c.args.d in
-    omega (arith, c.factor_shown-drawn.ensures.0, cube_need-parts d, cube_need_bound d c.requires.0.order)
+    omega (arith, c.factor_shown-drawn.ensures.0, cube_need-parts d, cube_need_bound d (omega (arith, c.shares-n.ensures)), c.shares-n.ensures)
 
 pub slice_bounds-sheet_core-count : goal.slice_bounds-sheet_core-count
 slice_bounds-sheet_core-count c =
@@ -35,11 +34,11 @@ slice_bounds-sheet_core-start c =
 
 pub slice_bounds-sheet_core-count-2 : goal.slice_bounds-sheet_core-count-2
 slice_bounds-sheet_core-count-2 c =
-    omega (arith, c.factor_shown-drawn.ensures.0, c.requires.1, cube_count-parts c.args.d)
+    omega (arith, c.factor_shown-drawn.ensures.0, c.requires.1, c.shares-n.ensures, cube_count-parts c.args.d)
 
 pub slice_bounds-sheet_core-start-2 : goal.slice_bounds-sheet_core-start-2
 slice_bounds-sheet_core-start-2 c =
-    omega (arith, c.factor_shown-drawn.ensures.0, c.requires.1, cube_count-parts c.args.d)
+    omega (arith, c.factor_shown-drawn.ensures.0, c.requires.1, c.shares-n.ensures, cube_count-parts c.args.d)
 
 pub sheet_core-requires : goal.sheet_core-requires
 sheet_core-requires c =
@@ -47,16 +46,15 @@ sheet_core-requires c =
     let p = c.requires in
     let f = c.factor_shown-drawn.ensures in
     (record {
-      order = p.0.order;
-      left = c.z-1.given ∙ length-part_first _ _ (omega (arith, p.0.order)) ∙ add-one _;
+      left = c.z-1.given ∙ length-part_first _ _ (omega (arith, c.shares-n.ensures.1)) ∙ c.shares-n.ensures.0;
       right = p.0.input;
       drawn = rw length-part_rest (omega (arith, f.0, p.0.drawn, cube_need-parts v.d));
-    }, rw length-part_rest (omega (arith, f.0, p.1, cube_count-parts v.d)))
+    }, rw length-part_rest (omega (arith, f.0, p.1, c.shares-n.ensures, cube_count-parts v.d)))
 
 pub overflow_add-result : goal.overflow_add-result
 overflow_add-result c =
     let d = c.args.d in
-    omega (arith, c.sheet_core.ensures.0, c.factor_shown-drawn.ensures.0, cube_need-parts d, cube_need_bound d c.requires.0.order)
+    omega (arith, c.sheet_core.ensures.0, c.factor_shown-drawn.ensures.0, cube_need-parts d, cube_need_bound d (omega (arith, c.shares-n.ensures)), c.shares-n.ensures)
 
 pub returns : goal.returns
 returns c =
@@ -69,6 +67,6 @@ returns c =
     let q = c.sheet_core.ensures in (
       ap₂ ◌+◌ f.0 q.0 ∙ sym (cube_need-parts d),
       cube-written d xs ts _ _ _ _ v.out.now c.requires.0.input c.requires.1 f.0
-          (ap (λ (n : ℕ). n + 3 * k) (add-one d)) f.2 c.out-1.given
+          (ap (λ (n : ℕ). n + 3 * k) c.shares-n.ensures.0) f.2 c.out-1.given
           (q.1 ∙ ap (λ (z : List ℕ). sheet times d z xs (take (length ts - k) (drop k ts))) f.1),
     )

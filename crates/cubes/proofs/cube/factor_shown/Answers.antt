@@ -2,7 +2,6 @@
 use mathlib.Core.List.{List}
 use mathlib.Core.Path.{ap, sym, ◌∙◌}
 use Prim.Native.Nat.{ℕ}
-use native.Mathlib.Numerals.{add-one}
 use native.Mathlib.Omega.{arith}
 use Rattle.xor.proofs.WriteLaws.{length-part_rest}
 use Rattle.refresh.specs.Refresh.{refreshed}
@@ -14,26 +13,22 @@ pub put-requires : goal.put-requires
 put-requires c =
     omega (arith, c.requires.1, c.requires.2, cube_count-parts c.args.d)
 
-pub overflow_add-n : goal.overflow_add-n
-overflow_add-n c = omega (arith, c.requires.0.order)
-
 pub slice_bounds-refresh_shown-count : goal.slice_bounds-refresh_shown-count
 slice_bounds-refresh_shown-count c =
-    omega (arith, c.requires.2, cube_count-parts c.args.d)
+    omega (arith, c.requires.2, c.shares-n.ensures, cube_count-parts c.args.d)
 
 pub slice_bounds-refresh_shown-start : goal.slice_bounds-refresh_shown-start
 slice_bounds-refresh_shown-start c =
-    omega (arith, c.requires.2, cube_count-parts c.args.d)
+    omega (arith, c.requires.2, c.shares-n.ensures, cube_count-parts c.args.d)
 
 pub refresh_shown-requires : goal.refresh_shown-requires
 refresh_shown-requires c =
     let v = c.args in
     let p = c.requires in
     record {
-      order = p.0.order;
       long = c.z-1.given ∙ p.1;
       drawn = omega (arith, p.0.drawn, cube_need-parts v.d);
-      room = rw length-part_rest (omega (arith, p.2, cube_count-parts v.d));
+      room = rw length-part_rest (omega (arith, p.2, c.shares-n.ensures, cube_count-parts v.d));
     }
 
 pub returns : goal.returns
@@ -45,6 +40,6 @@ returns c =
     let s = c.raise.ensures in (
       r.0,
       r.1 ∙ ap (λ (z : List ℕ). refreshed v.d z v.tape.now) s,
-      factor-written v.d v.x.now v.tape.now _ _ _ _ v.out.now (p.0.input ∙ sym (add-one v.d))
-          (omega (arith, p.2, cube_count-parts v.d)) s c.put.ensures r.2,
+      factor-written v.d v.x.now v.tape.now _ _ _ _ v.out.now (p.0.input ∙ sym c.shares-n.ensures.0)
+          (omega (arith, p.2, c.shares-n.ensures, cube_count-parts v.d)) s c.put.ensures r.2,
     )

@@ -1,62 +1,18 @@
 -- `lengths::answers::preparation_answer` meets its contract. Assumes nothing.
-use mathlib.Core.Path.{sym, ap, ◌∙◌, subst}
-use Prim.Native.Nat.{ℕ}
-use borrow.Author.Tests.{eq-eqb, ne_eqb}
-use Rattle.std.specs.Prelude.{Ok, Err}
-use Rattle.outcomes.specs.Outcome.{took, reaches}
-use Rattle.outcomes.proofs.OutcomeLaws.{handed_up, answered_here, answered_next, answered-none, served_bounds, lt_reaches, le_reaches}
+use Rattle.std.proofs.Common.{sym, ◌∙◌}
 use Rattle.tape_words.specs.Words.{words_for}
+use Rattle.outcomes.specs.Outcome.{took}
 use Rattle.cipher.specs.Cipher.{schedule_need}
-use Rattle.lengths.specs.Lengths.{KeySize, prepared_length}
-use Rattle.lengths.proofs.LengthsLaws.{key_sized}
-use Rattle.lengths.proofs.PreviewsLaws.{keyed-none, keyed-some, size-found, size-missing}
+use Rattle.lengths.specs.Lengths.{key_words}
+use Rattle.lengths.specs.Previews.{preparation_served}
+use Rattle.outcomes.proofs.OutcomeLaws.{answered-unserved, answered-served}
 use Rattle.lengths.proofs.answers.preparation_answer.Goals as goal
 
-pub returns-then-not-served : goal.returns-then-not-served
-returns-then-not-served c = answered_here _ _ _ _ (sym c.served.ensures ∙ c.if-not-served.true)
-
-pub key_words-requires : goal.key_words-requires
-key_words-requires c = (served_bounds _ (sym c.served.ensures ∙ c.if-not-served.false)).1
-
-pub returns-in_err-size : goal.returns-in_err-size
-returns-in_err-size c =
-    let m = size-missing _ _ _ _ _ c.ok_or.ensures.value c.key_words.ensures.none c.in_err-size.was in
-    handed_up _ _ c.from_residual.ensures.1 ∙ ap Err m.1 ∙ keyed-none _ _ _ _ (sym c.served.ensures ∙ c.if-not-served.false) m.0
-
-pub prepared_length-requires : goal.prepared_length-requires
-prepared_length-requires c =
-    ((served_bounds _ (sym c.served.ensures ∙ c.if-not-served.false)).1, c.in_ok-size.size.sized.1)
-
-pub returns-then-output-prepared_length : goal.returns-then-output-prepared_length
-returns-then-output-prepared_length c =
-    let a = c.args in
-    let e = size-found _ _ _ _ _ c.ok_or.ensures.value c.key_words.ensures.some c.in_ok-size.was in
-    let size = c.prepared_length.ensures.0 ∙ ap (λ (n : ℕ). prepared_length n a.order) e in
-    keyed-some _ _ _ _ _ _ e (sym c.served.ensures ∙ c.if-not-served.false) c.in_ok-size.size.sized.0
-    (answered_here _ _ _ _ (ne_eqb _ _ (λ q. c.if-output-prepared_length.true (q ∙ sym size))))
-
-pub schedule_need-requires : goal.schedule_need-requires
-schedule_need-requires c =
-    let a = c.args in
-    (served_bounds a.order (sym c.served.ensures ∙ c.if-not-served.false)).1
-
-pub returns-then-tape-words : goal.returns-then-tape-words
-returns-then-tape-words c =
-    let a = c.args in
-    let e = size-found _ _ _ _ _ c.ok_or.ensures.value c.key_words.ensures.some c.in_ok-size.was in
-    let size = c.prepared_length.ensures.0 ∙ ap (λ (n : ℕ). prepared_length n a.order) e in
-    let need = c.words_for-words.ensures ∙ ap words_for (c.schedule_need.ensures.0 ∙ ap (λ (n : ℕ). schedule_need n a.order) e) in
-    keyed-some _ _ _ _ _ _ e (sym c.served.ensures ∙ c.if-not-served.false) c.in_ok-size.size.sized.0
-    (answered_next _ _ _ _ (eq-eqb _ _ (c.if-output-prepared_length.false ∙ size))
-    (answered_here _ _ _ _ (ap (reaches a.tape) (sym need) ∙ lt_reaches _ _ c.if-tape-words.true)))
+pub returns-in_err-d : goal.returns-in_err-d
+returns-in_err-d c = answered-unserved _ _ _ _ (sym c.served.ensures ∙ c.in_err-d.was) _ c.from_residual.ensures.1
 
 pub returns : goal.returns
 returns c =
     let a = c.args in
-    let e = size-found _ _ _ _ _ c.ok_or.ensures.value c.key_words.ensures.some c.in_ok-size.was in
-    let size = c.prepared_length.ensures.0 ∙ ap (λ (n : ℕ). prepared_length n a.order) e in
-    let need = c.words_for-words.ensures ∙ ap words_for (c.schedule_need.ensures.0 ∙ ap (λ (n : ℕ). schedule_need n a.order) e) in
-    keyed-some _ _ _ _ _ _ e (sym c.served.ensures ∙ c.if-not-served.false) c.in_ok-size.size.sized.0
-    (answered_next _ _ _ _ (eq-eqb _ _ (c.if-output-prepared_length.false ∙ size))
-    (answered_next _ _ _ _ (ap (reaches a.tape) (sym need) ∙ le_reaches _ _ c.if-tape-words.false)
-    (ap (λ (n : ℕ). Ok (took n)) need ∙ answered-none _)))
+    answered-served _ _ (λ d. preparation_served d a.key a.tape a.output)
+    (λ d. took (words_for (schedule_need (key_words d a.key) d))) _ (sym c.served.ensures ∙ c.in_ok-d.was) c.preparation_tested.ensures

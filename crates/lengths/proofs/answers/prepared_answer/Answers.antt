@@ -1,37 +1,18 @@
 -- `lengths::answers::prepared_answer` meets its contract. Assumes nothing.
-use mathlib.Core.Path.{ap, sym, ◌∙◌, subst}
-use Rattle.std.specs.Prelude.{Err}
-use Rattle.outcomes.proofs.OutcomeLaws.{handed_up, answered_here, served_bounds}
+use Rattle.std.proofs.Common.{sym, ◌∙◌}
+use Rattle.tape_words.specs.Words.{words_for}
+use Rattle.outcomes.specs.Outcome.{took}
 use Rattle.cipher.specs.Cipher.{encrypted_with_need}
-use Rattle.lengths.specs.Lengths.{KeySize}
-use Rattle.lengths.proofs.LengthsLaws.{prepared_sized}
-use Rattle.lengths.proofs.PreviewsLaws.{keyed-none, keyed-some, size-found, size-missing, block_answered}
+use Rattle.lengths.specs.Lengths.{prepared_words}
+use Rattle.lengths.specs.Previews.{prepared_served}
+use Rattle.outcomes.proofs.OutcomeLaws.{answered-unserved, answered-served}
 use Rattle.lengths.proofs.answers.prepared_answer.Goals as goal
 
-pub returns-then-not-served : goal.returns-then-not-served
-returns-then-not-served c = answered_here _ _ _ _ (sym c.served.ensures ∙ c.if-not-served.true)
-
-pub prepared_words-requires : goal.prepared_words-requires
-prepared_words-requires c = (served_bounds _ (sym c.served.ensures ∙ c.if-not-served.false)).1
-
-pub returns-in_err-size : goal.returns-in_err-size
-returns-in_err-size c =
-    let m = size-missing _ _ _ _ _ c.ok_or.ensures.value c.prepared_words.ensures.none c.in_err-size.was in
-    handed_up _ _ c.from_residual.ensures.1 ∙ ap Err m.1 ∙ keyed-none _ _ _ _ (sym c.served.ensures ∙ c.if-not-served.false) m.0
-
-pub encrypted_with_need-requires : goal.encrypted_with_need-requires
-encrypted_with_need-requires c =
-    let a = c.args in
-    (served_bounds a.order (sym c.served.ensures ∙ c.if-not-served.false)).1
-
-pub block_answer-requires : goal.block_answer-requires
-block_answer-requires c =
-    (served_bounds _ (sym c.served.ensures ∙ c.if-not-served.false)).1
+pub returns-in_err-d : goal.returns-in_err-d
+returns-in_err-d c = answered-unserved _ _ _ _ (sym c.served.ensures ∙ c.in_err-d.was) _ c.from_residual.ensures.1
 
 pub returns : goal.returns
 returns c =
     let a = c.args in
-    let e = size-found _ _ _ _ _ c.ok_or.ensures.value c.prepared_words.ensures.some c.in_ok-size.was in
-    keyed-some _ _ _ _ _ _ e (sym c.served.ensures ∙ c.if-not-served.false) c.in_ok-size.size.sized.0
-    (block_answered _ _ a.order a.input a.tape a.output _ _ (λ m. encrypted_with_need m a.order) _ e
-    c.encrypted_with_need.ensures.0 c.words_for-need.ensures c.block_answer.ensures)
+    answered-served _ _ (λ d. prepared_served d a.prepared a.input a.tape a.output)
+    (λ d. took (words_for (encrypted_with_need (prepared_words d a.prepared) d))) _ (sym c.served.ensures ∙ c.in_ok-d.was) c.prepared_tested.ensures

@@ -1,37 +1,18 @@
 -- `lengths::answers::single_answer` meets its contract. Assumes nothing.
-use mathlib.Core.Path.{ap, sym, ◌∙◌, subst}
-use Rattle.std.specs.Prelude.{Err}
-use Rattle.outcomes.proofs.OutcomeLaws.{handed_up, answered_here, served_bounds}
+use Rattle.std.proofs.Common.{sym, ◌∙◌}
+use Rattle.tape_words.specs.Words.{words_for}
+use Rattle.outcomes.specs.Outcome.{took}
 use Rattle.cipher.specs.Cipher.{cipher_need}
-use Rattle.lengths.specs.Lengths.{KeySize}
-use Rattle.lengths.proofs.LengthsLaws.{key_sized}
-use Rattle.lengths.proofs.PreviewsLaws.{keyed-none, keyed-some, size-found, size-missing, block_answered}
+use Rattle.lengths.specs.Lengths.{key_words}
+use Rattle.lengths.specs.Previews.{single_served}
+use Rattle.outcomes.proofs.OutcomeLaws.{answered-unserved, answered-served}
 use Rattle.lengths.proofs.answers.single_answer.Goals as goal
 
-pub returns-then-not-served : goal.returns-then-not-served
-returns-then-not-served c = answered_here _ _ _ _ (sym c.served.ensures ∙ c.if-not-served.true)
-
-pub key_words-requires : goal.key_words-requires
-key_words-requires c = (served_bounds _ (sym c.served.ensures ∙ c.if-not-served.false)).1
-
-pub returns-in_err-size : goal.returns-in_err-size
-returns-in_err-size c =
-    let m = size-missing _ _ _ _ _ c.ok_or.ensures.value c.key_words.ensures.none c.in_err-size.was in
-    handed_up _ _ c.from_residual.ensures.1 ∙ ap Err m.1 ∙ keyed-none _ _ _ _ (sym c.served.ensures ∙ c.if-not-served.false) m.0
-
-pub cipher_need-requires : goal.cipher_need-requires
-cipher_need-requires c =
-    let a = c.args in
-    (served_bounds a.order (sym c.served.ensures ∙ c.if-not-served.false)).1
-
-pub block_answer-requires : goal.block_answer-requires
-block_answer-requires c =
-    (served_bounds _ (sym c.served.ensures ∙ c.if-not-served.false)).1
+pub returns-in_err-d : goal.returns-in_err-d
+returns-in_err-d c = answered-unserved _ _ _ _ (sym c.served.ensures ∙ c.in_err-d.was) _ c.from_residual.ensures.1
 
 pub returns : goal.returns
 returns c =
     let a = c.args in
-    let e = size-found _ _ _ _ _ c.ok_or.ensures.value c.key_words.ensures.some c.in_ok-size.was in
-    keyed-some _ _ _ _ _ _ e (sym c.served.ensures ∙ c.if-not-served.false) c.in_ok-size.size.sized.0
-    (block_answered _ _ a.order a.input a.tape a.output _ _ (λ m. cipher_need m a.order) _ e
-    c.cipher_need.ensures c.words_for-need.ensures c.block_answer.ensures)
+    answered-served _ _ (λ d. single_served d a.key a.input a.tape a.output)
+    (λ d. took (words_for (cipher_need (key_words d a.key) d))) _ (sym c.served.ensures ∙ c.in_ok-d.was) c.single_tested.ensures

@@ -12,16 +12,9 @@ pub overflow_mul-result : goal.overflow_mul-result
 overflow_mul-result c = let b = size_bounds (even-sized _ c.args.key.sized) in omega arith
 
 pub overflow_mul-result-2 : goal.overflow_mul-result-2
-overflow_mul-result-2 c =
-    omega (
-      arith,
-      ap (λ (q : ℕ). 16 * (c.args.key.nk + 6) * q) c.box_need.ensures,
-      encrypted_with_need_bound c.args.d (even-sized _ c.args.key.sized) c.requires,
-    )
+overflow_mul-result-2 c = omega (arith, encrypted_with_need_bound (even-sized _ c.args.key.sized) c.box_need.ensures.1)
 
 pub returns : goal.returns
 returns c =
-    let e = ap (λ (q : ℕ). 16 * (c.args.key.nk + 6) * q) c.box_need.ensures in (
-      e ∙ encrypted_with_need-made c.args.d (even-sized _ c.args.key.sized),
-      omega (arith, e, encrypted_with_need_bound c.args.d (even-sized _ c.args.key.sized) c.requires),
-    )
+    (ap (λ (q : ℕ). 16 * (c.args.key.nk + 6) * q) c.box_need.ensures.0 ∙ encrypted_with_need-made c.args.d (even-sized _ c.args.key.sized),
+    encrypted_with_need_bound (even-sized _ c.args.key.sized) c.box_need.ensures.1)

@@ -1,48 +1,17 @@
 -- `masking::product::factors_answer` meets its contract. Assumes nothing.
-use mathlib.Core.Path.{ap, sym, ◌∙◌}
-use Prim.Native.Nat.{ℕ}
-use borrow.Author.Tests.{eq-eqb, ne_eqb}
-use Rattle.outcomes.specs.Outcome.{reaches, took}
-use Rattle.std.specs.Prelude.{Ok}
-use Rattle.outcomes.proofs.OutcomeLaws.{answered_here, answered_next, answered-none, served_bounds, lt_reaches, le_reaches}
+use Rattle.std.proofs.Common.{sym, ◌∙◌}
 use Rattle.tape_words.specs.Words.{words_for}
+use Rattle.outcomes.specs.Outcome.{took}
+use Rattle.isw.specs.Place.{product_need}
+use Rattle.masking.specs.Calls.{factor_served}
+use Rattle.outcomes.proofs.OutcomeLaws.{answered-unserved, answered-served}
 use Rattle.masking.proofs.product.factors_answer.Goals as goal
 
-pub returns-then-not-served : goal.returns-then-not-served
-returns-then-not-served c = answered_here _ _ _ _ (sym c.served.ensures ∙ c.if-not-served.true)
-
-pub two_fit-requires : goal.two_fit-requires
-two_fit-requires c = (served_bounds _ (sym c.served.ensures ∙ c.if-not-served.false)).1
-
-pub returns-then-not-two_fit : goal.returns-then-not-two_fit
-returns-then-not-two_fit c =
-    answered_next _ _ _ _ (sym c.served.ensures ∙ c.if-not-served.false)
-    (answered_here _ _ _ _ (sym c.two_fit.ensures ∙ c.if-not-two_fit.true))
-
-pub returns-then-output-room : goal.returns-then-output-room
-returns-then-output-room c =
-    answered_next _ _ _ _ (sym c.served.ensures ∙ c.if-not-served.false)
-    (answered_next _ _ _ _ (sym c.two_fit.ensures ∙ c.if-not-two_fit.false) (answered_here _ _ _ _ (ne_eqb _ _ c.if-output-room.true)))
-
-pub product_need-requires : goal.product_need-requires
-product_need-requires c =
-    (served_bounds _ (sym c.served.ensures ∙ c.if-not-served.false)).1
-
-pub returns-then-tape-need : goal.returns-then-tape-need
-returns-then-tape-need c =
-    let need = c.words_for-need.ensures ∙ ap words_for c.product_need.ensures in
-    let a = c.args in
-    answered_next _ _ _ _ (sym c.served.ensures ∙ c.if-not-served.false)
-    (answered_next _ _ _ _ (sym c.two_fit.ensures ∙ c.if-not-two_fit.false)
-    (answered_next _ _ _ _ (eq-eqb _ _ c.if-output-room.false)
-    (answered_here _ _ _ _ (ap (λ (k : ℕ). reaches a.tape k) (sym need) ∙ lt_reaches _ _ c.if-tape-need.true))))
+pub returns-in_err-d : goal.returns-in_err-d
+returns-in_err-d c = answered-unserved _ _ _ _ (sym c.served.ensures ∙ c.in_err-d.was) _ c.from_residual.ensures.1
 
 pub returns : goal.returns
 returns c =
-    let need = c.words_for-need.ensures ∙ ap words_for c.product_need.ensures in
     let a = c.args in
-    answered_next _ _ _ _ (sym c.served.ensures ∙ c.if-not-served.false)
-    (answered_next _ _ _ _ (sym c.two_fit.ensures ∙ c.if-not-two_fit.false)
-    (answered_next _ _ _ _ (eq-eqb _ _ c.if-output-room.false)
-    (answered_next _ _ _ _ (ap (λ (k : ℕ). reaches a.tape k) (sym need) ∙ le_reaches _ _ c.if-tape-need.false)
-    (ap (λ (k : ℕ). Ok (took k)) need ∙ answered-none _))))
+    answered-served _ _ (λ d. factor_served a.room d a.left a.right a.tape a.output)
+    (λ d. took (words_for (product_need d))) _ (sym c.served.ensures ∙ c.in_ok-d.was) c.factors_tested.ensures

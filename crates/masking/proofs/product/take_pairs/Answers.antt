@@ -23,24 +23,26 @@ product_row-drawn-requires c =
     let a = v.a.now in
     let b = v.b.now in
     let ts = v.tape.now in
-    let h = c.loop-i-test.true in
-    row_fits v.d l.i l.drawn h l.invariant.1 a b ts l.sums p.0 l.invariant.3
+    let e = c.number-last.ensures in
+    rw e.0 (row_fits v.d l.i l.drawn (omega arith) l.invariant.1 (omega arith) a b ts l.sums p.0 l.invariant.3)
 
 pub overflow_add-drawn : goal.overflow_add-drawn
 overflow_add-drawn c =
     let l = c.loop-i in
-    let r = row_counts c.args.d l.i l.drawn c.loop-i-test.true l.invariant.1 in
+    let e = c.number-last.ensures in
+    let r = row_counts c.args.d l.i l.drawn (omega arith) l.invariant.1 in
     omega (arith, c.product_row-drawn.ensures.0)
 
 pub loop-i-preserved : goal.loop-i-preserved
 loop-i-preserved c =
     let l = c.loop-i in
     let v = c.args in
-    let t = c.product_row-drawn.ensures in
+    let e = c.number-last.ensures.0 in
+    let t = rw e at c.product_row-drawn.ensures in
     let ts = v.tape.now in
-    let r = row_counts v.d l.i l.drawn c.loop-i-test.true l.invariant.1 in
+    let r = row_counts v.d l.i l.drawn (omega arith) l.invariant.1 in
     let f = part_rest ts l.drawn ∙ ap (λ (k : ℕ). drop k ts) l.invariant.1 in (
-      r.0,
+      omega arith,
       ap (◌+◌ l.drawn) t.0 ∙ r.1,
       r.2,
       omega arith,
@@ -54,6 +56,7 @@ pub returns : goal.returns
 returns c =
     let l = c.loop-i in
     let d = c.args.d in
+    let s = c.number-last.ensures.0 in
     let e : l.i ≡ d = omega arith in
     let z : l.drawn ≡ before_row (suc d) d = rw e at l.invariant.1 in
     (z ∙ sym (product_need_last d), sums-all d _ _ _ _ l.invariant.3 (rw e at l.invariant.4))

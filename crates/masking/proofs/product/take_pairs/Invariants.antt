@@ -9,8 +9,8 @@ use Rattle.masking.proofs.product.take_pairs.Given as goal
 
 abbrev pub invariant-loop-i : goal.invariant-loop-i
 invariant-loop-i l =
-    (l.i ≤ l.d) × (l.drawn ≡ before_row (suc l.d) l.i) × (before_row (suc l.d) l.i ≤ product_need l.d) × (length l.sums ≡ suc l.d)
-    × Sums (suc l.d) l.a l.b l.tape l.i l.sums
+    (l.i ≤ l.last) × (l.drawn ≡ before_row (suc l.fn.d) l.i) × (before_row (suc l.fn.d) l.i ≤ product_need l.fn.d) × (length l.sums ≡ suc l.fn.d)
+    × Sums (suc l.fn.d) l.a l.b l.tape l.i l.sums
 
 abbrev pub decreases-loop-i : goal.decreases-loop-i
-decreases-loop-i l = l.d - l.i
+decreases-loop-i l = l.last - l.i

@@ -21,7 +21,7 @@ slice_bounds-product_core-start c = search rules
 pub product_core-requires : goal.product_core-requires
 unfolding stage_need
 product_core-requires c =
-    (record { order = search rules; left = search rules; right = search rules; drawn = search rules }, search rules)
+    (record { left = search rules; right = search rules; drawn = search rules }, search rules)
 
 pub overflow_add-result : goal.overflow_add-result
 unfolding stage_need

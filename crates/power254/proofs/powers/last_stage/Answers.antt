@@ -6,11 +6,11 @@ use Rattle.power254.proofs.powers.last_stage.Goals as goal
 
 pub product_core-first-requires : goal.product_core-first-requires
 product_core-first-requires c =
-    (record { order = search rules; left = search rules; right = search rules; drawn = search rules }, search rules)
+    (record { left = search rules; right = search rules; drawn = search rules }, search rules)
 
 pub product_core-requires : goal.product_core-requires
 product_core-requires c =
-    (record { order = search rules; left = search rules; right = search rules; drawn = search rules }, search rules)
+    (record { left = search rules; right = search rules; drawn = search rules }, search rules)
 
 pub overflow_add-second : goal.overflow_add-second
 overflow_add-second c =
@@ -20,7 +20,6 @@ pub product_core-requires-2 : goal.product_core-requires-2
 product_core-requires-2 c =
     let fits = c.requires in
     (record {
-      order = fits.order;
       left = omega (arith, c);
       right = fits.long_z;
       drawn = omega arith;

@@ -8,12 +8,11 @@ use Rattle.power254.proofs.powers.later_stages.Goals as goal
 
 pub raise_refreshed-drawn-requires : goal.raise_refreshed-drawn-requires
 raise_refreshed-drawn-requires c =
-    record { order = search rules; input = search rules; output = search rules; drawn = search rules }
+    record { input = search rules; output = search rules; drawn = search rules }
 
 pub last_stage-requires : goal.last_stage-requires
 last_stage-requires c =
     record {
-    order = search rules;
     long_y = search rules;
     long_w = search rules;
     long_z = search rules;

@@ -8,7 +8,7 @@ use Rattle.power254.proofs.powers.power_core.Goals as goal
 pub first_stage-drawn-requires : goal.first_stage-drawn-requires
 unfolding power_need stage_need
 first_stage-drawn-requires c =
-    record { order = search rules; input = search rules; power = search rules; output = search rules; drawn = search rules }
+    record { input = search rules; power = search rules; output = search rules; drawn = search rules }
 
 pub slice_bounds-later_stages-count : goal.slice_bounds-later_stages-count
 unfolding power_need stage_need
@@ -21,7 +21,7 @@ slice_bounds-later_stages-start c = search rules
 pub later_stages-requires : goal.later_stages-requires
 unfolding power_need stage_need
 later_stages-requires c =
-    record { order = search rules; long_z = search rules; long_y = search rules; output = search rules; drawn = search rules }
+    record { long_z = search rules; long_y = search rules; output = search rules; drawn = search rules }
 
 pub overflow_add-result : goal.overflow_add-result
 unfolding power_need stage_need

@@ -7,7 +7,7 @@ use Rattle.refresh.proofs.refreshing.refresh_core.Given as goal
 
 abbrev pub invariant-loop-i : goal.invariant-loop-i
 invariant-loop-i l = record {
-  drawn : l.drawn ≡ before_row (suc l.d) l.i;
-  needed : before_row (suc l.d) l.i ≤ refresh_need l.d;
-  rows : l.x ≡ rows-refreshed (suc l.d) l.i l.initial.x l.tape;
+  drawn : l.drawn ≡ before_row (suc l.fn.d) l.i;
+  needed : before_row (suc l.fn.d) l.i ≤ refresh_need l.fn.d;
+  rows : l.x ≡ rows-refreshed (suc l.fn.d) l.i l.initial.x l.tape;
 }

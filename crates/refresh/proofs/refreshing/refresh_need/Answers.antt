@@ -4,4 +4,4 @@ use Rattle.refresh.proofs.RefreshLaws.{refresh_need-pairs}
 use Rattle.refresh.proofs.refreshing.refresh_need.Goals as goal
 
 pub returns : goal.returns
-returns c = c.pair_count.ensures ∙ sym (refresh_need-pairs _)
+returns c = (c.pair_count.ensures.0 ∙ sym (refresh_need-pairs _), c.pair_count.ensures.1)

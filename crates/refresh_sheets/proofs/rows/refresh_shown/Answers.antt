@@ -1,7 +1,7 @@
 -- `refresh_sheets::rows::refresh_shown` meets its contract. Assumes nothing.
 use mathlib.Core.Path.{◌≡◌, refl, ap, sym, ◌∙◌}
 use mathlib.Core.List.{List}
-use Prim.Native.Nat.{ℕ, suc, ◌+◌, ◌*◌}
+use Prim.Native.Nat.{ℕ, suc, ◌+◌, ◌*◌, ◌<◌}
 use native.Mathlib.Omega.{arith}
 use lib.ListN.{drop}
 use Rattle.xor.specs.Pairs.{before_row}
@@ -22,13 +22,14 @@ sheet_row-drawn-requires c =
     let l = c.loop-i in
     let v = c.args in
     let p = c.requires in
-    let r = row_counts v.d l.i l.drawn c.loop-i-test.true l.invariant.drawn in
+    let s = c.number-last.ensures in
+    let r = row_counts v.d l.i l.drawn (omega arith) l.invariant.drawn in
     let n = refresh_need-pairs v.d in
     let e = length-part_rest v.tape.now l.drawn in
     let f = length-part_rest l.out (3 * l.drawn) in
     record {
       some = omega arith;
-      few = omega (arith, p.order);
+      few = omega arith;
       drawn = rw e (omega (arith, p.drawn));
       behind = omega (arith, p.long);
       room = rw f (omega (arith, p.room));
@@ -38,7 +39,8 @@ pub overflow_add-drawn : goal.overflow_add-drawn
 overflow_add-drawn c =
     let l = c.loop-i in
     let d = c.args.d in
-    let r = row_counts d l.i l.drawn c.loop-i-test.true l.invariant.drawn in
+    let s = c.number-last.ensures in
+    let r = row_counts d l.i l.drawn (omega arith) l.invariant.drawn in
     omega (arith, c.sheet_row-drawn.ensures.0, c.requires.drawn, refresh_need-pairs d)
 
 pub loop-i-preserved : goal.loop-i-preserved
@@ -48,8 +50,9 @@ loop-i-preserved c =
     let p = c.requires in
     let ts = v.tape.now in
     let xs = v.x.now in
-    let t = c.sheet_row-drawn.ensures in
-    let h = c.loop-i-test.true in
+    let s = c.number-last.ensures.0 in
+    let t = rw s at c.sheet_row-drawn.ensures in
+    let h : l.i < v.d = omega arith in
     let n = refresh_need-pairs v.d in
     let r = row_counts v.d l.i l.drawn h l.invariant.drawn in
     let f = part_rest ts l.drawn ∙ ap (λ (k : ℕ). drop k ts) l.invariant.drawn in
@@ -66,6 +69,7 @@ returns c =
     let l = c.loop-i in
     let v = c.args in
     let d = v.d in
+    let s = c.number-last.ensures.0 in
     let e : l.i ≡ d = omega arith in
     let z : l.drawn ≡ before_row (suc d) d = rw e at l.invariant.drawn in (
       z ∙ sym (pair_count_last d) ∙ sym (refresh_need-pairs d),

@@ -9,8 +9,8 @@ use Rattle.refresh_sheets.proofs.rows.refresh_shown.Given as goal
 
 abbrev pub invariant-loop-i : goal.invariant-loop-i
 invariant-loop-i l = record {
-  drawn : l.drawn ≡ before_row (suc l.d) l.i;
-  needed : before_row (suc l.d) l.i ≤ refresh_need l.d;
-  rows : l.x ≡ rows-refreshed (suc l.d) l.i l.initial.x l.tape;
-  shown : l.out ≡ front (rows-sheet (suc l.d) l.i l.initial.x l.tape) l.initial.out;
+  drawn : l.drawn ≡ before_row (suc l.fn.d) l.i;
+  needed : before_row (suc l.fn.d) l.i ≤ refresh_need l.fn.d;
+  rows : l.x ≡ rows-refreshed (suc l.fn.d) l.i l.initial.x l.tape;
+  shown : l.out ≡ front (rows-sheet (suc l.fn.d) l.i l.initial.x l.tape) l.initial.out;
 }

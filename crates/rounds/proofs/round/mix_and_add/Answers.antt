@@ -21,7 +21,7 @@ returns-in-Forward c =
     let a = c.args in
     let p = parts (suc a.d) 16 a.s.now in
     let ks = parts (suc a.d) a.m a.keys.now in
-    let shape = map-shared mix_columns (λ s e. mix_columns-length s) (state_shape a.d a.s.now c.requires.3) in
+    let shape = map-shared mix_columns (λ s e. mix_columns-length s) (state_shape a.d a.s.now c.requires.2) in
     let made = two_steps a.d (map mix_columns) (λ p. adds p (round_keys ks a.r)) _ _ _ shape c.step_all.ensures in
     made c.add_key.ensures ∙ sym (ap (λ (w : Direction). laid (keyed_of w a.r ks p)) c.in-Forward.is)
 
@@ -31,7 +31,7 @@ returns-in-Inverse c =
     let fit = c.requires in
     let p = parts (suc a.d) 16 a.s.now in
     let ks = parts (suc a.d) a.m a.keys.now in
-    let keyed = round_keys-shared a.r fit.1 (shared-parts a.d a.m a.keys.now (omega (arith, fit.2))) in
-    let shape = adds-shared (state_shape a.d a.s.now fit.3) keyed in
+    let keyed = round_keys-shared a.r fit.0 (shared-parts a.d a.m a.keys.now (omega (arith, fit.1))) in
+    let shape = adds-shared (state_shape a.d a.s.now fit.2) keyed in
     let made = two_steps a.d (λ p. adds p (round_keys ks a.r)) (map inv_mix_columns) _ _ _ shape c.add_key-in-Inverse.ensures in
     made c.step_all-in-Inverse.ensures ∙ sym (ap (λ (w : Direction). laid (keyed_of w a.r ks p)) c.in-Inverse.is)

@@ -19,7 +19,7 @@ returns-in-Forward c =
     let a = c.args in
     let ts = bytes_of a.tape.now in
     let p = parts (suc a.d) 16 a.s.now in
-    let shape = subs-shared by_rows ts (state_shape a.d a.s.now c.requires.2) in
+    let shape = subs-shared by_rows ts (state_shape a.d a.s.now c.requires.1) in
     let boxed = c.sub_rows-drawn.ensures in
     let made = two_steps a.d (λ p. subs a.d by_rows p ts) (map shift_rows) _ _ _ shape boxed.1 c.step_all.ensures in
     (boxed.0, made ∙ sym (ap (λ (w : Direction). laid (shifted_of w a.d p ts)) c.in-Forward.is))
@@ -29,7 +29,7 @@ returns-in-Inverse c =
     let a = c.args in
     let ts = bytes_of a.tape.now in
     let p = parts (suc a.d) 16 a.s.now in
-    let shape = map-shared inv_shift_rows (λ s e. inv_shift_rows-length s) (state_shape a.d a.s.now c.requires.2) in
+    let shape = map-shared inv_shift_rows (λ s e. inv_shift_rows-length s) (state_shape a.d a.s.now c.requires.1) in
     let boxed = c.sub_rows.ensures in
     let made = two_steps a.d (map inv_shift_rows) (λ p. inv_subs a.d by_rows p ts) _ _ _ shape c.step_all-in-Inverse.ensures boxed.1 in
     (boxed.0, made ∙ sym (ap (λ (w : Direction). laid (shifted_of w a.d p ts)) c.in-Inverse.is))

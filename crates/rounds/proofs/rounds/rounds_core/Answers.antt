@@ -11,14 +11,13 @@ pub add_key-requires : goal.add_key-requires
 add_key-requires c =
     let a = c.args in
     let fit = c.requires in
-    (fit.order, omega (arith, c.key_number-first.ensures.1), keys_length a.nk a.d _ fit.keyed, omega arith)
+    (omega (arith, c.key_number-first.ensures.1), keys_length a.nk a.d _ fit.keyed, omega arith)
 
 pub run_rounds-requires : goal.run_rounds-requires
 run_rounds-requires c =
     let a = c.args in
     let fit = c.requires in
     record {
-      order = fit.order;
       small = omega arith;
       round = omega arith;
       keyed = keys_length a.nk a.d _ fit.keyed;

@@ -7,7 +7,7 @@ use Rattle.tape_words.specs.Words.{bytes_of}
 use Rattle.tape_words.proofs.WordsLaws.{length-bytes, length-bytes_rest}
 use Rattle.cipher.proofs.DrawingLoops.{round_loop, rounds-whole, rounds-whole-need}
 use Rattle.buffers.proofs.BufferLaws.{buffered_start, buffered_room, buffered_words, buffered_taken, buffered_done}
-use Rattle.rounds.proofs.BlockLaws.{rounds_bound, round_keeps, round-made}
+use Rattle.rounds.proofs.BlockLaws.{round_keeps, round-made}
 use borrow.Author.Rules.{rules}
 use Rattle.rounds.proofs.rounds.run_rounds.Goals as goal
 
@@ -41,7 +41,6 @@ make_round-at-requires c =
     let whole = rounds-whole-need a.which a.d a.nr (parts (suc a.d) a.m a.keys.now) in
     let room = buffered_room l.invariant.3 (omega arith) in
     record {
-      order = fit.order;
       round = omega (arith, fit.round, c.key_number-r.ensures.1);
       keyed = fit.keyed;
       drawn = omega (arith, room, whole, fit.drawn, length-bytes a.tape.now, length-bytes_rest l.at a.tape.now);
@@ -55,8 +54,7 @@ overflow_add-at c =
     let fit = c.requires in
     let whole = rounds-whole-need a.which a.d a.nr (parts (suc a.d) a.m a.keys.now) in
     let room = buffered_room c.loop-i.invariant.3 (omega arith) in
-    let bound = rounds_bound a.nr a.d fit.small fit.order in
-    omega (arith, c.make_round-at.ensures.0, room, whole, bound)
+    omega (arith, c.make_round-at.ensures.0, room, whole, c.well_formed, fit.drawn, length-bytes a.tape.now)
 
 pub loop-i-preserved : goal.loop-i-preserved
 unfolding round_loop

@@ -1,6 +1,6 @@
 -- `sbox::boxes::affine_all` meets its contract. Assumes nothing.
 use mathlib.Core.Path.{◌∙◌}
-use Prim.Native.Nat.{◌<◌}
+use Prim.Native.Nat.{◌≤◌, ◌<◌}
 use native.Mathlib.Omega.{arith}
 use lib.ListN.{length}
 use lib.Seq.{length-take-le}
@@ -12,19 +12,20 @@ loop-number-init c = each_none _ _
 
 pub bounds-x-i : goal.bounds-x-i
 bounds-x-i c =
-    let x = c.args.x.now in
-    let long = length-take-le (length x) numbers c.requires in
-    omega (arith, first_numbered (length x) c.loop-number.number-index c.requires (omega arith))
+    let n = c.shares.result in
+    let long = length-take-le n numbers c.shares.ensures.1 in
+    omega (arith, c.shares.ensures, first_numbered n c.loop-number.number-index c.shares.ensures.1 (omega arith))
 
 pub loop-number-preserved : goal.loop-number-preserved
 loop-number-preserved c =
-    let x = c.args.x.now in
+    let n = c.shares.result in
     let l = c.loop-number in
-    let long = length-take-le (length x) numbers c.requires in
-    let here : l.number-index < length x = omega arith in
-    each_named _ _ _ _ _ _ (c.from-i.ensures ∙ first_numbered (length x) l.number-index c.requires here) l.invariant c.affine.ensures here
+    let long = length-take-le n numbers c.shares.ensures.1 in
+    let here : l.number-index < n = omega arith in
+    let within : l.number-index < length c.args.x.now = omega (arith, c.shares.ensures) in
+    each_named _ _ _ _ _ _ (c.from-i.ensures ∙ first_numbered n l.number-index c.shares.ensures.1 here) l.invariant c.affine.ensures within
 
 pub returns : goal.returns
 returns c =
-    let long = length-take-le (length c.args.x.now) numbers c.requires in
-    each_all _ _ _ _ c.loop-number.invariant (omega arith)
+    let long = length-take-le c.shares.result numbers c.shares.ensures.1 in
+    each_all _ _ _ _ c.loop-number.invariant (omega (arith, c.shares.ensures))

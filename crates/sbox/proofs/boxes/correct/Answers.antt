@@ -3,8 +3,8 @@ use native.Mathlib.Omega.{arith}
 use Rattle.sbox.proofs.BoxLaws.{corrected_odd, corrected_even}
 use Rattle.sbox.proofs.boxes.correct.Goals as goal
 
-pub returns-then-d-eq1 : goal.returns-then-d-eq1
-returns-then-d-eq1 c = corrected_odd _ _ _ _ c.constant.ensures (omega arith)
+pub returns-then-number-eq1 : goal.returns-then-number-eq1
+returns-then-number-eq1 c = corrected_odd _ _ _ _ c.constant.ensures (omega arith)
 
-pub returns-else-d-eq1 : goal.returns-else-d-eq1
-returns-else-d-eq1 c = corrected_even _ _ _ (omega arith)
+pub returns-else-number-eq1 : goal.returns-else-number-eq1
+returns-else-number-eq1 c = corrected_even _ _ _ (omega arith)

@@ -9,7 +9,7 @@ use Rattle.sbox.proofs.boxes.inverse_box_core.Goals as goal
 
 pub power_core-requires : goal.power_core-requires
 power_core-requires c =
-    record { order = search rules; long = search rules; drawn = search rules }
+    record { long = search rules; drawn = search rules }
 
 pub returns : goal.returns
 unfolding inverse_box

@@ -38,7 +38,6 @@ next_word-at-requires c =
     let l = c.loop-i in
     let room = drawing_room l.invariant.4 (omega arith) in
     record {
-      order = fit.order;
       some = fit.some;
       past = l.invariant.0;
       room = omega arith;

@@ -11,14 +11,13 @@ pub copy_key-requires : goal.copy_key-requires
 copy_key-requires c =
     let v = c.args in
     let fit = c.requires in
-    (fit.order, omega arith, fit.long, long_is v.nk v.d _ fit.keyed)
+    (omega arith, fit.long, long_is v.nk v.d _ fit.keyed)
 
 pub expand-requires : goal.expand-requires
 expand-requires c =
     let v = c.args in
     let fit = c.requires in
     record {
-      order = fit.order;
       some = fit.some;
       past = omega arith;
       small = omega arith;

@@ -15,7 +15,6 @@ turned_temp-requires c =
     let fit = c.requires in
     let e = kind_turned v.nk v.i (omega arith) in
     record {
-      order = fit.order;
       some = some_turn v.nk v.i fit.some fit.past;
       long = fit.long;
       drawn = need_turned v.nk v.d v.i _ e fit.drawn;
@@ -34,7 +33,7 @@ sub_word-requires c =
     let v = c.args in
     let fit = c.requires in
     let e = kind_subbed v.nk v.i (omega arith) (omega arith) in
-    (fit.order, fit.long, need_subbed v.nk v.d v.i _ e fit.drawn)
+    (fit.long, need_subbed v.nk v.d v.i _ e fit.drawn)
 
 pub returns-then-left-eq4 : goal.returns-then-left-eq4
 returns-then-left-eq4 c =

@@ -8,7 +8,7 @@ use Rattle.schedule.proofs.word.next_word.Goals as goal
 pub make_temp-drawn-requires : goal.make_temp-drawn-requires
 make_temp-drawn-requires c =
     let fit = c.requires in
-    record { order = fit.order; some = fit.some; past = fit.past; long = omega arith; drawn = fit.drawn }
+    record { some = fit.some; past = fit.past; long = omega arith; drawn = fit.drawn }
 
 pub returns : goal.returns
 returns c =

@@ -1,50 +1,34 @@
 -- `shares::joining::join_answer` meets its contract. Assumes nothing.
 use mathlib.Core.Path.{refl, ap, sym, ◌∙◌}
-use Prim.Native.Nat.{ℕ, ◌+◌, ◌≤◌}
-use native.Mathlib.Numerals.{add-one}
-use native.Mathlib.Omega.{arith}
+use Prim.Native.Nat.{ℕ}
 use borrow.Author.Tests.{eq-eqb, ne_eqb, lt-ltb}
 use Rattle.outcomes.specs.Outcome.{share_length}
 use Rattle.std.specs.Prelude.{Err}
-use Rattle.outcomes.proofs.OutcomeLaws.{handed_up, answered_here, answered_next, answered-none, served_bounds}
+use Rattle.outcomes.proofs.OutcomeLaws.{handed_up, answered_here, answered_next, answered-none}
 use Rattle.outcomes.proofs.LengthsLaws.{share_length-found, share_length-missing}
 use Rattle.shares.proofs.CallsLaws.{join_answered}
 use Rattle.shares.proofs.joining.join_answer.Goals as goal
 
-pub returns-then-not-served : goal.returns-then-not-served
-returns-then-not-served c = answered_here _ _ _ _ (sym c.served.ensures ∙ c.if-not-served.true)
-
-pub overflow_add-order : goal.overflow_add-order
-overflow_add-order c = let b = served_bounds _ (sym c.served.ensures ∙ c.if-not-served.false) in omega arith
-
-pub share_length-requires : goal.share_length-requires
-share_length-requires c =
-    let b = served_bounds c.args.order (sym c.served.ensures ∙ c.if-not-served.false) in
-    let h : c.args.order + 1 ≤ 9 = omega arith in
-    h
-
 pub returns-in_err-l : goal.returns-in_err-l
 returns-in_err-l c =
     let a = c.args in
-    let m = share_length-missing (a.order + 1) a.input _ _ _ _ c.share_length.ensures c.ok_or.ensures.value c.in_err-l.was in
+    let m = share_length-missing c.shares.result a.input _ _ _ _ c.share_length.ensures c.ok_or.ensures.value c.in_err-l.was in
     let r = handed_up _ _ c.from_residual.ensures.1 ∙ ap Err m.1 in
-    join_answered 0 a.order a.input a.output _ (sym m.0 ∙ ap (λ (n : ℕ). share_length n a.input) (add-one a.order))
-    (answered_next _ _ _ _ (sym c.served.ensures ∙ c.if-not-served.false) (r ∙ answered_here _ _ _ _ refl))
+    join_answered 0 a.d a.input a.output _ (sym m.0 ∙ ap (λ (n : ℕ). share_length n a.input) c.shares.ensures.0)
+    (r ∙ answered_here _ _ _ _ refl)
 
 pub returns-then-output-l : goal.returns-then-output-l
 returns-then-output-l c =
     let a = c.args in
-    let l = share_length-found (a.order + 1) a.input _ _ _ _ c.share_length.ensures c.ok_or.ensures.value c.in_ok-l.was in
-    join_answered _ a.order a.input a.output _ (sym l.0 ∙ ap (λ (n : ℕ). share_length n a.input) (add-one a.order))
-    (answered_next _ _ _ _ (sym c.served.ensures ∙ c.if-not-served.false)
+    let l = share_length-found c.shares.result a.input _ _ _ _ c.share_length.ensures c.ok_or.ensures.value c.in_ok-l.was in
+    join_answered _ a.d a.input a.output _ (sym l.0 ∙ ap (λ (n : ℕ). share_length n a.input) c.shares.ensures.0)
     (answered_next _ _ _ _ (lt-ltb 0 c.in_ok-l.l l.1)
-    (answered_here _ _ _ _ (ne_eqb _ _ c.if-output-l.true))))
+    (answered_here _ _ _ _ (ne_eqb _ _ c.if-output-l.true)))
 
 pub returns : goal.returns
 returns c =
     let a = c.args in
-    let l = share_length-found (a.order + 1) a.input _ _ _ _ c.share_length.ensures c.ok_or.ensures.value c.in_ok-l.was in
-    join_answered _ a.order a.input a.output _ (sym l.0 ∙ ap (λ (n : ℕ). share_length n a.input) (add-one a.order))
-    (answered_next _ _ _ _ (sym c.served.ensures ∙ c.if-not-served.false)
+    let l = share_length-found c.shares.result a.input _ _ _ _ c.share_length.ensures c.ok_or.ensures.value c.in_ok-l.was in
+    join_answered _ a.d a.input a.output _ (sym l.0 ∙ ap (λ (n : ℕ). share_length n a.input) c.shares.ensures.0)
     (answered_next _ _ _ _ (lt-ltb 0 c.in_ok-l.l l.1)
-    (answered_next _ _ _ _ (eq-eqb _ _ c.if-output-l.false) (answered-none _))))
+    (answered_next _ _ _ _ (eq-eqb _ _ c.if-output-l.false) (answered-none _)))

@@ -1,15 +1,17 @@
 -- `sheets::sheet::sheet_size` meets its contract. Assumes nothing.
-use mathlib.Core.Path.{sym, ◌∙◌}
+use mathlib.Core.Path.{ap, sym, ◌∙◌}
 use native.Mathlib.Omega.{arith}
+use Rattle.isw.specs.Place.{place_count}
 use Rattle.xor.proofs.Tests.{true_false}
-use Rattle.outcomes.proofs.OutcomeLaws.{served_bounds}
+use Rattle.outcomes.proofs.OutcomeLaws.{order_served-ok, order_served-err}
 use Rattle.sheets.proofs.sheet.sheet_size.Goals as goal
 
-pub place_count-requires : goal.place_count-requires
-place_count-requires c = (served_bounds _ (sym c.served.ensures ∙ c.if-served.true)).1
+pub returns-in-Ok : goal.returns-in-Ok
+returns-in-Ok c =
+    let n = order_served-ok _ _ (sym c.served.ensures ∙ c.in-Ok.is) in
+    (λ e. c.place_count.ensures.0 ∙ ap place_count (sym n.0), c.place_count.ensures.1)
 
-pub returns-then-served : goal.returns-then-served
-returns-then-served c = (λ e. c.place_count.ensures.0, c.place_count.ensures.1)
-
-pub returns : goal.returns
-returns c = (λ e. absurd (true_false (sym e ∙ sym c.served.ensures ∙ c.if-served.false)), omega arith)
+pub returns-in-Err : goal.returns-in-Err
+returns-in-Err c =
+    let n = order_served-err _ _ (sym c.served.ensures ∙ c.in-Err.is) in
+    (λ e. absurd (true_false (sym e ∙ n.0)), omega arith)

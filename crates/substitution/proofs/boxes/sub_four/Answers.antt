@@ -6,7 +6,6 @@ use Rattle.tape_words.proofs.WordsLaws.{reach_words}
 use Rattle.tape_words.proofs.FrontLaws.{unpack_fits, made_on_words}
 use Rattle.shares.specs.Strings.{parts, laid}
 use Rattle.sbox.specs.Box.{box_need}
-use Rattle.sbox.proofs.BoxLaws.{box_need_bound}
 use Rattle.cipher.specs.Cipher.{subs_of, subs_need}
 use Rattle.cipher.proofs.SurplusLaws.{subs_of-surplus}
 use Rattle.substitution.specs.Boxes.{spaced}
@@ -17,16 +16,12 @@ use Rattle.substitution.proofs.boxes.sub_four.Goals as goal
 need_is : (d first stride n : ℕ) → n ≡ box_need d → 4 * n ≡ subs_need d (spaced first stride)
 need_is d first stride n e = ap (◌*◌ 4) e ∙ sym (spaced-need d first stride)
 
-pub overflow_mul-box_need : goal.overflow_mul-box_need
-overflow_mul-box_need c =
-    omega (arith, c.box_need.ensures, box_need_bound c.args.d c.requires.order)
-
 pub unpack-requires : goal.unpack-requires
 unpack-requires c =
     let a = c.args in
     let fit = c.requires in
-    let need = need_is a.d a.first a.stride _ c.box_need.ensures in
-    let bound = box_need_bound a.d fit.order in
+    let need = need_is a.d a.first a.stride _ c.box_need.ensures.0 in
+    let bound = c.box_need.ensures in
     unpack_fits _ _ 216 a.tape.now need (reach_words _ a.tape.now fit.drawn)
     (omega (arith, bound, spaced-need a.d a.first a.stride))
 
@@ -34,9 +29,8 @@ pub sub_spaced-requires : goal.sub_spaced-requires
 sub_spaced-requires c =
     let a = c.args in
     let fit = c.requires in
-    let bound = box_need_bound a.d fit.order in
+    let bound = c.box_need.ensures in
     record {
-      order = fit.order;
       quarter = fit.quarter;
       place = fit.place;
       small = fit.small;
@@ -49,7 +43,7 @@ returns c =
     let a = c.args in
     let ks = spaced a.first a.stride in
     let ss = parts (suc a.d) a.l a.s.now in
-    let need = need_is a.d a.first a.stride _ c.box_need.ensures in
+    let need = need_is a.d a.first a.stride _ c.box_need.ensures.0 in
     let words = reach_words _ a.tape.now c.requires.drawn in
     let made = made_on_words (λ ts. laid (subs_of a.which a.d ks ss ts)) (subs_need a.d ks)
     (λ ts us h. ap laid (subs_of-surplus a.which a.d ks ss ts us h)) in (

@@ -5,7 +5,7 @@ use Rattle.substitution.proofs.boxes.sub_place.Goals as goal
 
 pub box_of-drawn-requires : goal.box_of-drawn-requires
 box_of-drawn-requires c =
-    record { order = search rules; long = search rules; drawn = search rules }
+    record { long = search rules; drawn = search rules }
 
 pub returns : goal.returns
 returns c =

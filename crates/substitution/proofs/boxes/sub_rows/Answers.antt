@@ -10,25 +10,25 @@ use borrow.Author.Rules.{rules}
 use Rattle.substitution.proofs.boxes.sub_rows.Goals as goal
 
 pub loop-r-init : goal.loop-r-init
-loop-r-init c = (omega arith, buffered_start _ 0 _ _ _ _ c.requires.1)
+loop-r-init c = (omega arith, buffered_start _ 0 _ _ _ _ c.requires.0)
 
 pub offset_bounds-tape-at : goal.offset_bounds-tape-at
 unfolding four-rows
 offset_bounds-tape-at c =
     let room = buffered_room c.loop-r.invariant.1 (omega arith) in
-    omega (arith, room, c.well_formed, c.requires.2, length-bytes c.args.tape.now)
+    omega (arith, room, c.well_formed, c.requires.1, length-bytes c.args.tape.now)
 
 pub slice_bounds-sub_four-count : goal.slice_bounds-sub_four-count
 unfolding four-rows
 slice_bounds-sub_four-count c =
     let room = buffered_room c.loop-r.invariant.1 (omega arith) in
-    omega (arith, room, c.requires.2, length-bytes c.args.tape.now)
+    omega (arith, room, c.requires.1, length-bytes c.args.tape.now)
 
 pub slice_bounds-sub_four-start : goal.slice_bounds-sub_four-start
 unfolding four-rows
 slice_bounds-sub_four-start c =
     let room = buffered_room c.loop-r.invariant.1 (omega arith) in
-    omega (arith, room, c.requires.2, length-bytes c.args.tape.now)
+    omega (arith, room, c.requires.1, length-bytes c.args.tape.now)
 
 pub sub_four-at-requires : goal.sub_four-at-requires
 unfolding four-rows
@@ -36,19 +36,18 @@ sub_four-at-requires c =
     let l = c.loop-r in
     let room = buffered_room l.invariant.1 (omega arith) in
     record {
-      order = c.requires.0;
       quarter = omega arith;
       place = omega arith;
       small = omega arith;
       long = l.invariant.1.long;
-      drawn = omega (arith, room, c.requires.2, length-bytes c.args.tape.now, length-bytes_rest l.at c.args.tape.now);
+      drawn = omega (arith, room, c.requires.1, length-bytes c.args.tape.now, length-bytes_rest l.at c.args.tape.now);
     }
 
 pub overflow_add-at : goal.overflow_add-at
 unfolding four-rows
 overflow_add-at c =
     let room = buffered_room c.loop-r.invariant.1 (omega arith) in
-    omega (arith, c.sub_four-at.ensures.0, room, c.well_formed, c.requires.2, length-bytes c.args.tape.now)
+    omega (arith, c.sub_four-at.ensures.0, room, c.well_formed, c.requires.1, length-bytes c.args.tape.now)
 
 pub loop-r-preserved : goal.loop-r-preserved
 unfolding four-rows

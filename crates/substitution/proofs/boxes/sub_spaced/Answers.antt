@@ -40,7 +40,6 @@ sub_place-at-requires c =
     let l = c.loop-m in
     let room = buffered_room l.invariant.2 (omega arith) in
     record {
-      order = c.requires.order;
       place = spaced_within a.first a.stride l.m a.l (omega arith) (omega arith) (omega arith);
       long = l.invariant.2.long;
       drawn = omega (arith, room, length-part_rest a.tape.now l.at);
