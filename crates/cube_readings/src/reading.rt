@@ -4,7 +4,7 @@ ghost use Rattle.outcomes.specs.Outcome.{outcome, served};
 ghost use Rattle.gadgets.specs.Cube as Cube;
 ghost use Rattle.cube_readings.specs.Calls.{cube_reading_outcome};
 
-use outcomes::Answer;
+use outcomes::{Answer, Order};
 
 // The reading, with room for the sheet, whose refusals 1, 3 and 5 are handed up.
 fn read_with(
@@ -36,7 +36,8 @@ pub fn read_cube_places(
     ensures { outcome result output.new
         ≡ cube_reading_outcome order input.now tape.now list.now output.old }
 {
+    let d = Order::served(order)?;
     let mut sheet = [0u8; 396];
-    let size = cubes::cube::cube_size(order);
+    let size = cubes::cube::cube_count(d);
     read_with(order, input, tape, list, &mut sheet[0..size], output)
 }
