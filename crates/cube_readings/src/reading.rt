@@ -7,6 +7,7 @@ ghost use Rattle.cube_readings.specs.Calls.{cube_reading_outcome};
 use outcomes::{Answer, Order};
 
 // The reading, with room for the sheet, whose refusals 1, 3 and 5 are handed up.
+// Kept: `let .. else` and no `?`, the form that document 01 names for it, in either reading.
 fn read_with(
     order: usize,
     input: &[u8],

@@ -1,5 +1,5 @@
-// The rows of memory that the bytes of a row's pairs go through (the rule at the head of steps.rt), as one value. Document 01, "The steps over shares",
-// decides what they are.
+// The rows of memory that the bytes of a row's pairs go through (the rule at the head of steps.rt), as one value. Document 01, "The steps over
+// shares", decides what they are.
 ghost use Rattle.std.specs.Prelude.{◌≡◌, replicate};
 ghost use Rattle.xor.specs.Lists.{tab};
 ghost use Rattle.xor.specs.Running.{owns};
