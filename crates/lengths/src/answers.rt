@@ -1,5 +1,5 @@
-// The tests that decide a call's answer behind that of its order, on the buffers' lengths alone. The calls and their previews ask here, so the order of the
-// tests stands once. Document 01's table decides it; for prepared keys document 02, wish 1, and for previews wish 4.
+// The tests that decide a call's answer behind that of its order, on the buffers' lengths alone. The calls and their previews ask here, so their
+// order stands once. Document 01's table decides it; for prepared keys document 02, wish 1, and for previews wish 4.
 // Lengths are any numbers: they are compared, and nothing is computed with them. The tape's is in words, and needs are rounded up to words here.
 ghost use Rattle.std.specs.Prelude.{◌≡◌};
 ghost use Rattle.outcomes.specs.Outcome.{answered, took};
