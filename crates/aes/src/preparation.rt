@@ -32,13 +32,7 @@ pub fn encrypt_prepared(
         ≡ encrypt_prepared_outcome order prepared.now input.now tape.now output.old }
 {
     let d = Order::served(order)?;
-    lengths::answers::prepared_tested(
-        d,
-        prepared.len(),
-        input.len(),
-        tape.len(),
-        output.len(),
-    )?;
+    lengths::answers::prepared_tested(d, prepared.len(), input.len(), tape.len(), output.len())?;
     let size = sizes::prepared_words(d, prepared.len()).unwrap();
     let tables = Tables::new();
     let taken = rounds::rounds::rounds_core(

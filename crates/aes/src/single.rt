@@ -29,17 +29,7 @@ fn block_with(
         × (output.new ≡ laid_of which nk d key.now input.now (bytes_of tape.now)) }
 {
     let drawn = schedule::expansion::expand_core(tables, nk, d, key, tape, keys);
-    drawn
-        + rounds::rounds::rounds_core(
-            tables,
-            which,
-            nk,
-            d,
-            keys,
-            input,
-            &tape[drawn..],
-            output,
-        )
+    drawn + rounds::rounds::rounds_core(tables, which, nk, d, keys, input, &tape[drawn..], output)
 }
 
 // A block, with a buffer for the round keys: at most 9 shares of 240 bytes.
@@ -85,13 +75,7 @@ fn call(
         ≡ single_outcome which order key.now input.now tape.now output.old }
 {
     let d = Order::served(order)?;
-    lengths::answers::single_tested(
-        d,
-        key.len(),
-        input.len(),
-        tape.len(),
-        output.len(),
-    )?;
+    lengths::answers::single_tested(d, key.len(), input.len(), tape.len(), output.len())?;
     let size = sizes::key_words(d, key.len()).unwrap();
     let tables = Tables::new();
     Ok(Count {

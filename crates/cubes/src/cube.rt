@@ -55,13 +55,7 @@ fn factor_shown(
 }
 
 // The whole sheet. Answers with how many bytes were drawn.
-pub fn cube_core(
-    tables: &Tables,
-    d: Order,
-    x: &[u8],
-    tape: &[u8],
-    out: &mut [u8],
-) -> usize
+pub fn cube_core(tables: &Tables, d: Order, x: &[u8], tape: &[u8], out: &mut [u8]) -> usize
     requires { CubeFits d x.now tape.now × (length out.old ≡ Cube.cube_count d) }
     ensures { (result ≡ Cube.cube_need d)
         × (out.new ≡ Cube.cube_sheet Field.times Field.squared d x.now tape.now) }
@@ -75,13 +69,7 @@ pub fn cube_core(
 }
 
 // The same on a tape of words. Answers with how many words were drawn.
-fn cube_on_words(
-    tables: &Tables,
-    d: Order,
-    x: &[u8],
-    tape: &[u32],
-    out: &mut [u8],
-) -> usize
+fn cube_on_words(tables: &Tables, d: Order, x: &[u8], tape: &[u32], out: &mut [u8]) -> usize
     requires { CubeFits d x.now (bytes_of tape.now) × (length out.old ≡ Cube.cube_count d) }
     ensures { (result ≡ words_for (Cube.cube_need d))
         × (out.new ≡ Cube.cube_sheet Field.times Field.squared d x.now (bytes_of tape.now)) }
@@ -96,14 +84,7 @@ pub fn cube_sheet(order: usize, input: &[u8], tape: &[u32], output: &mut [u8]) -
         ≡ cube_sheet_outcome order input.now tape.now output.old }
 {
     let d = Order::served(order)?;
-    shares::answers::input_tested(
-        2,
-        cube_count(d),
-        d,
-        input.len(),
-        tape.len(),
-        output.len(),
-    )?;
+    shares::answers::input_tested(2, cube_count(d), d, input.len(), tape.len(), output.len())?;
     let tables = Tables::new();
     Ok(Count {
         taken: cube_on_words(&tables, d, input, tape, output),

@@ -74,8 +74,7 @@ fn last_stage(
     let v = &mut room[0..n];
     let first = masking::product::product_core(tables, d, y, w, tape, v);
     raise(tables, Exponent::Sixteen, v, output);
-    let second = first
-        + masking::product::product_core(tables, d, output, w, &tape[first..], v);
+    let second = first + masking::product::product_core(tables, d, output, w, &tape[first..], v);
     second + masking::product::product_core(tables, d, v, z, &tape[second..], output)
 }
 

@@ -24,26 +24,14 @@ pub fn key_number(which: Direction, nr: usize, i: usize) -> usize
 }
 
 // SubBytes, then ShiftRows; in decryption InvShiftRows, then InvSubBytes. Answers with how many words were drawn.
-fn sub_and_shift(
-    tables: &Tables,
-    which: Direction,
-    d: Order,
-    tape: &[u32],
-    s: &mut [u8],
-) -> usize
+fn sub_and_shift(tables: &Tables, which: Direction, d: Order, tape: &[u32], s: &mut [u8]) -> usize
     requires { (round_need d ≤ length (bytes_of tape.now)) × (length s.old ≡ suc d * 16) }
     ensures { (4 * result ≡ round_need d)
         × (s.new ≡ laid (shifted_of which d (parts (suc d) 16 s.old) (bytes_of tape.now))) }
 {
     match which {
         Direction::Forward => {
-            let drawn = substitution::boxes::sub_rows(
-                tables,
-                Direction::Forward,
-                d,
-                tape,
-                s,
-            );
+            let drawn = substitution::boxes::sub_rows(tables, Direction::Forward, d, tape, s);
             linear::steps::step_all(Step::ShiftRows, Direction::Forward, d, s);
             drawn
         }

@@ -32,17 +32,7 @@ fn run_rounds(
     let mut at: usize = 0;
     for i in 1..nr + 1 {
         let r = crate::round::key_number(which, nr, i);
-        at += crate::round::make_round(
-            tables,
-            which,
-            i == nr,
-            d,
-            m,
-            r,
-            keys,
-            &tape[at..],
-            s,
-        );
+        at += crate::round::make_round(tables, which, i == nr, d, m, r, keys, &tape[at..], s);
     }
     at
 }

@@ -79,13 +79,7 @@ fn inverse_box_core(tables: &Tables, d: Order, tape: &[u8], x: &mut [u8]) -> usi
 }
 
 // The S-box of the direction, in the same way.
-pub fn box_of(
-    tables: &Tables,
-    which: Direction,
-    d: Order,
-    tape: &[u8],
-    x: &mut [u8],
-) -> usize
+pub fn box_of(tables: &Tables, which: Direction, d: Order, tape: &[u8], x: &mut [u8]) -> usize
     requires { PowerFits d x.old tape.now }
     ensures { (result ≡ Box.box_need d) × (x.new ≡ Box.box_of which d x.old tape.now) }
 {

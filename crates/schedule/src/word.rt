@@ -58,13 +58,7 @@ fn store_all(nk: usize, d: Order, m: usize, i: usize, t: &[u8], keys: &mut [u8])
 }
 
 // The temporary word where i is a multiple of nk: S-boxes, RotWord, and Rcon into share 0. Answers with how many words were drawn.
-fn turned_temp(
-    tables: &Tables,
-    d: Order,
-    j: usize,
-    tape: &[u32],
-    t: &mut [u8],
-) -> usize
+fn turned_temp(tables: &Tables, d: Order, j: usize, tape: &[u32], t: &mut [u8]) -> usize
     requires { TurnedFits d j (bytes_of tape.now) t.old }
     ensures { (4 * result ≡ subs_need d in_word)
         × (t.new ≡ laid (masked_temp d Kind.turned j (parts (suc d) 4 t.old) (bytes_of tape.now))) }
@@ -76,14 +70,7 @@ fn turned_temp(
 }
 
 // The temporary word as word i wants it. Answers with how many words were drawn.
-fn make_temp(
-    tables: &Tables,
-    nk: usize,
-    d: Order,
-    i: usize,
-    tape: &[u32],
-    t: &mut [u8],
-) -> usize
+fn make_temp(tables: &Tables, nk: usize, d: Order, i: usize, tape: &[u32], t: &mut [u8]) -> usize
     requires { TempFits nk d i (bytes_of tape.now) t.old }
     ensures { (4 * result ≡ temp_need d (kind nk i))
         × (t.new ≡ laid (masked_temp d (kind nk i) (i / nk) (parts (suc d) 4 t.old) (bytes_of tape.now))) }

@@ -95,16 +95,7 @@ fn sheet_with(
     shares::bytes::put(a, out);
     shares::bytes::put(b, &mut out[n..]);
     let pairs = 2 * n;
-    let drawn = sheet_rows(
-        tables,
-        d,
-        a,
-        b,
-        tape,
-        sums,
-        table,
-        &mut out[pairs..],
-    );
+    let drawn = sheet_rows(tables, d, a, b, tape, sums, table, &mut out[pairs..]);
     let behind = pairs + 5 * drawn;
     sheet_parts::parts::put_table(n, table, &mut out[behind..]);
     drawn
@@ -126,16 +117,7 @@ pub fn sheet_core(
     let mut sums = [0u8; 9];
     let mut table = [0u8; 81];
     let n = d.shares();
-    sheet_with(
-        tables,
-        d,
-        a,
-        b,
-        tape,
-        &mut sums[0..n],
-        &mut table,
-        out,
-    )
+    sheet_with(tables, d, a, b, tape, &mut sums[0..n], &mut table, out)
 }
 
 // The same on a tape of words. Answers with how many words were drawn.

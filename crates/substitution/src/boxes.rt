@@ -83,13 +83,7 @@ fn sub_four(
 }
 
 // The S-boxes of a state, row by row. Answers with how many words were drawn.
-pub fn sub_rows(
-    tables: &Tables,
-    which: Direction,
-    d: Order,
-    tape: &[u32],
-    s: &mut [u8],
-) -> usize
+pub fn sub_rows(tables: &Tables, which: Direction, d: Order, tape: &[u32], s: &mut [u8]) -> usize
     requires { (length s.old ≡ suc d * 16) × (subs_need d by_rows ≤ length (bytes_of tape.now)) }
     ensures { (4 * result ≡ subs_need d by_rows)
         × (s.new ≡ laid (subs_of which d by_rows (parts (suc d) 16 s.old) (bytes_of tape.now))) }

@@ -44,12 +44,12 @@ rounds_core-taken-requires c =
     in
     let w = size-known _ _ _ c.prepared_words.ensures.some c.unwrap-size.ensures in
     record {
-        small = c.unwrap-size.result.sized.1;
-        keyed = rw w (prepared_keys_length _ c.in_ok-d.d _ (prepared_long c.in_ok-d.d (length a.prepared.now) t.some));
-        input = t.input;
-        output = t.output;
-        drawn = rw w (words_reach _ a.tape.now t.drawn);
-      }
+      small = c.unwrap-size.result.sized.1;
+      keyed = rw w (prepared_keys_length _ c.in_ok-d.d _ (prepared_long c.in_ok-d.d (length a.prepared.now) t.some));
+      input = t.input;
+      output = t.output;
+      drawn = rw w (words_reach _ a.tape.now t.drawn);
+    }
 
 pub returns : goal.returns
 unfolding encrypt_prepared_outcome

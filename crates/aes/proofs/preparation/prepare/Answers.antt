@@ -40,12 +40,12 @@ expand_core-requires c =
     in
     let w = size-known _ _ _ c.key_words.ensures.some c.unwrap-size.ensures in
     record {
-        some = rw w t.some;
-        small = c.unwrap-size.result.sized.1;
-        long = rw w (key_length c.in_ok-d.d (length a.key.now) t.some);
-        keyed = rw w (prepared_keys_length _ c.in_ok-d.d _ t.output);
-        drawn = rw w (words_reach _ a.tape.now t.drawn);
-      }
+      some = rw w t.some;
+      small = c.unwrap-size.result.sized.1;
+      long = rw w (key_length c.in_ok-d.d (length a.key.now) t.some);
+      keyed = rw w (prepared_keys_length _ c.in_ok-d.d _ t.output);
+      drawn = rw w (words_reach _ a.tape.now t.drawn);
+    }
 
 pub returns : goal.returns
 unfolding prepare_outcome

@@ -44,12 +44,14 @@ pub sheet_core-requires : goal.sheet_core-requires
 sheet_core-requires c =
     let v = c.args in
     let p = c.requires in
-    let f = c.factor_shown-drawn.ensures in
-    (record {
-      left = c.z-1.given ∙ length-part_first _ _ (omega (arith, c.shares-n.ensures.1)) ∙ c.shares-n.ensures.0;
-      right = p.0.input;
-      drawn = rw length-part_rest (omega (arith, f.0, p.0.drawn, cube_need-parts v.d));
-    }, rw length-part_rest (omega (arith, f.0, p.1, c.shares-n.ensures, cube_count-parts v.d)))
+    let f = c.factor_shown-drawn.ensures in (
+      record {
+        left = c.z-1.given ∙ length-part_first _ _ (omega (arith, c.shares-n.ensures.1)) ∙ c.shares-n.ensures.0;
+        right = p.0.input;
+        drawn = rw length-part_rest (omega (arith, f.0, p.0.drawn, cube_need-parts v.d));
+      },
+      rw length-part_rest (omega (arith, f.0, p.1, c.shares-n.ensures, cube_count-parts v.d)),
+    )
 
 pub overflow_add-result : goal.overflow_add-result
 overflow_add-result c =

@@ -15,6 +15,7 @@ pub overflow_mul-result-2 : goal.overflow_mul-result-2
 overflow_mul-result-2 c = omega (arith, encrypted_with_need_bound (even-sized _ c.args.key.sized) c.box_need.ensures.1)
 
 pub returns : goal.returns
-returns c =
-    (ap (λ (q : ℕ). 16 * (c.args.key.nk + 6) * q) c.box_need.ensures.0 ∙ encrypted_with_need-made c.args.d (even-sized _ c.args.key.sized),
-    encrypted_with_need_bound (even-sized _ c.args.key.sized) c.box_need.ensures.1)
+returns c = (
+  ap (λ (q : ℕ). 16 * (c.args.key.nk + 6) * q) c.box_need.ensures.0 ∙ encrypted_with_need-made c.args.d (even-sized _ c.args.key.sized),
+  encrypted_with_need_bound (even-sized _ c.args.key.sized) c.box_need.ensures.1,
+)

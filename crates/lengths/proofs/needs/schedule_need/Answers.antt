@@ -12,6 +12,7 @@ overflow_mul-result c =
 
 pub returns : goal.returns
 returns c =
-    let m = schedule_need_bound (even-sized _ c.args.key.sized) c.box_need.ensures.1 in
-    (ap₂ ◌*◌ c.key_boxes.ensures c.box_need.ensures.0 ∙ schedule_need-made c.args.d (even-sized _ c.args.key.sized),
-    omega (arith, ap (λ (n : ℕ). n * c.box_need.result) c.key_boxes.ensures, m))
+    let m = schedule_need_bound (even-sized _ c.args.key.sized) c.box_need.ensures.1 in (
+      ap₂ ◌*◌ c.key_boxes.ensures c.box_need.ensures.0 ∙ schedule_need-made c.args.d (even-sized _ c.args.key.sized),
+      omega (arith, ap (λ (n : ℕ). n * c.box_need.result) c.key_boxes.ensures, m),
+    )

@@ -18,12 +18,14 @@ overflow_add-second c =
 
 pub product_core-requires-2 : goal.product_core-requires-2
 product_core-requires-2 c =
-    let fits = c.requires in
-    (record {
-      left = omega (arith, c);
-      right = fits.long_z;
-      drawn = omega arith;
-    }, omega arith)
+    let fits = c.requires in (
+      record {
+        left = omega (arith, c);
+        right = fits.long_z;
+        drawn = omega arith;
+      },
+      omega arith,
+    )
 
 pub overflow_add-result : goal.overflow_add-result
 overflow_add-result c =

@@ -13,12 +13,12 @@ raise_refreshed-drawn-requires c =
 pub last_stage-requires : goal.last_stage-requires
 last_stage-requires c =
     record {
-    long_y = search rules;
-    long_w = search rules;
-    long_z = search rules;
-    output = search rules;
-    drawn = search rules;
-  }
+      long_y = search rules;
+      long_w = search rules;
+      long_z = search rules;
+      output = search rules;
+      drawn = search rules;
+    }
 
 pub returns : goal.returns
 unfolding stage_w
