@@ -23,7 +23,7 @@ pub fn cube_count(d: Order) -> usize
     n + 3 * pairs::counting::pair_count(d) + sheets::sheet::place_count(d)
 }
 
-// The same where d is an order that is served, and 0 where it is not.
+// The same where d is an order that is served, and 0 where it is not. Kept: a number, as `sheet_size` of `sheets`.
 pub fn cube_size(order: usize) -> usize
     ensures { (Outcome.served order ≡ true → result ≡ Cube.cube_count order) × (result ≤ 396) }
 {

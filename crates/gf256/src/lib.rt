@@ -13,13 +13,15 @@ pub use product::{double, times};
 pub use tables::Tables;
 
 // Which way AES runs: by the cipher of FIPS 197, or by its inverse cipher.
+// Kept: an enum and a match, where closures could be handed down. The definitions go by its two cases (`affine_of`, `box_of`, `round_of`), so a
+// contract names one, and one body of masked code serves both.
 #[derive(Clone, Copy)]
 pub enum Direction {
     Forward,
     Inverse,
 }
 
-// The powers of a byte that the S-box needs share by share.
+// The powers of a byte that the S-box needs share by share. Kept: an enum, as above; `raised_to` goes by its three cases.
 #[derive(Clone, Copy)]
 pub enum Exponent {
     Two,

@@ -1,12 +1,14 @@
-// The tests that decide a call's answer behind that of its order, on the buffers' lengths alone. The calls and their previews ask here, so the order of the
-// tests stands once. Document 01's table decides it; for prepared keys document 02, wish 1, and for previews wish 4.
+// The tests that decide a call's answer, on the order and the buffers' lengths alone: those behind the order's own (`.._tested`), and all of them
+// (`.._answer`). The calls and their previews ask here, so the order of the tests stands once. Document 01's table decides it; for prepared keys
+// document 02, wish 1, and for previews wish 4.
 // Lengths are any numbers: they are compared, and nothing is computed with them. The tape's is in words, and needs are rounded up to words here.
 ghost use Rattle.std.specs.Prelude.{◌≡◌};
 ghost use Rattle.outcomes.specs.Outcome.{answered, took};
 ghost use Rattle.tape_words.specs.Words.{words_for};
 ghost use Rattle.cipher.specs.Cipher.{schedule_need, encrypted_with_need, cipher_need};
 ghost use Rattle.lengths.specs.Lengths.{key_words, prepared_words};
-ghost use Rattle.lengths.specs.Previews.{block_tests, single_tests, single_served, preparation_tests, preparation_served, prepared_tests, prepared_served};
+ghost use Rattle.lengths.specs.Previews.{block_tests, single_tests, preparation_tests, prepared_tests};
+ghost use Rattle.lengths.specs.Previews.{single_served, preparation_served, prepared_served};
 
 use crate::{needs, sizes};
 use outcomes::{Answer, Count, Order, Refusal};

@@ -1,5 +1,6 @@
 // Asking beforehand: the answer that a call would give, from the order and the lengths of its buffers alone. Document 02, wish 4, decides.
 // Any lengths may be asked about, up to the largest number there is.
+// Kept: a routine for each call, though two answer alike: document 02 names them.
 ghost use Rattle.std.specs.Prelude.{◌≡◌, []};
 ghost use Rattle.outcomes.specs.Outcome.{outcome};
 ghost use Rattle.lengths.specs.Previews.{encrypt_preview, decrypt_preview, prepare_preview, encrypt_prepared_preview};

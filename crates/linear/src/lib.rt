@@ -7,6 +7,7 @@
 pub mod steps;
 
 // The linear steps of FIPS 197 that act on a state alone; a direction says whether the step is meant or its inverse.
+// Kept: an enum and a match. `stepped` goes by its cases, and `step_all` names one definition for all four steps.
 #[derive(Clone, Copy)]
 pub enum Step {
     ShiftRows,

@@ -5,6 +5,7 @@ ghost use Rattle.listing.specs.Most.{most};
 
 use crate::lines;
 use crate::lines::Lines;
+use outcomes::Order;
 
 // `a_0*b_1`
 fn print_cross(i: usize, j: usize) {
@@ -47,10 +48,10 @@ fn print_sum(i: usize, m: usize)
 }
 
 // The name of row i after m of its d terms; after all of them it is `c_0` and so on.
-fn print_part(d: usize, i: usize, m: usize)
+fn print_part(d: Order, i: usize, m: usize)
     requires { m ≤ 8 }
 {
-    if m == d {
+    if m == d.number() {
         text::print_with(b"c_", i);
     } else {
         print_sum(i, m);
@@ -67,11 +68,11 @@ pub fn factor(lines: &mut Lines, of: &[u8], n: usize)
 
 // All places of a product of order d: two factors, the pairs, and the running sums of each row.
 #[tactic(auto, using(crate::proofs::CountLaws::place_count_parts))]
-pub fn product(lines: &mut Lines, d: usize)
-    requires { (d ≤ 8) × (lines.old.next + place_count d ≤ most) }
+pub fn product(lines: &mut Lines, d: Order)
+    requires { lines.old.next + place_count d ≤ most }
     ensures { lines.new.next ≡ lines.old.next + place_count d }
 {
-    let n = d + 1;
+    let n = d.shares();
     factor(lines, b"a_", n);
     factor(lines, b"b_", n);
     lines.each_pair(n, 5, print_of_pair);
@@ -79,8 +80,6 @@ pub fn product(lines: &mut Lines, d: usize)
 }
 
 #[tactic(auto, using(crate::proofs::CountLaws::place_count_bound))]
-pub fn print(d: usize, sheet: &[u8]) {
-    if d <= 8 {
-        product(&mut Lines::new(sheet), d);
-    }
+pub fn print(d: Order, sheet: &[u8]) {
+    product(&mut Lines::new(sheet), d);
 }

@@ -5,6 +5,7 @@ ghost use Rattle.std.specs.Prelude.{◌≤◌};
 
 use crate::walk::{Part, Walk};
 use lengths::key::KeyWords;
+use outcomes::Order;
 
 // A step that takes n bytes.
 fn step(walk: &mut Walk, name: &[u8], n: usize) {
@@ -21,9 +22,7 @@ fn words(first: usize, next: usize) {
 }
 
 // The steps of an S-box that draw, in their order, as the end of its line.
-fn steps(walk: &mut Walk, d: usize)
-    requires { d ≤ 8 }
-{
+fn steps(walk: &mut Walk, d: Order) {
     let first = walk.at;
     let r = refresh::refreshing::refresh_need(d);
     let p = masking::product::product_need(d);
@@ -37,17 +36,13 @@ fn steps(walk: &mut Walk, d: usize)
 }
 
 // The S-box that byte k goes into.
-fn sbox_line(walk: &mut Walk, d: usize, part: Part, k: usize)
-    requires { d ≤ 8 }
-{
+fn sbox_line(walk: &mut Walk, d: Order, part: Part, k: usize) {
     walk.name_box(part, k);
     steps(walk, d);
 }
 
 // The S-boxes for word i of the expanded key, of the bytes of the word before it.
-fn key_word(walk: &mut Walk, d: usize, i: usize)
-    requires { d ≤ 8 }
-{
+fn key_word(walk: &mut Walk, d: Order, i: usize) {
     for k in 0..4usize {
         sbox_line(walk, d, Part::KeyWord(i), k);
     }
@@ -62,8 +57,8 @@ fn is_boxed(nk: usize, i: usize) -> bool
 }
 
 // All words behind the key's own.
-fn key_words(walk: &mut Walk, nk: usize, d: usize)
-    requires { (d ≤ 8) × (1 ≤ nk) × (nk ≤ 8) }
+fn key_words(walk: &mut Walk, nk: usize, d: Order)
+    requires { (1 ≤ nk) × (nk ≤ 8) }
 {
     for i in nk..4 * (nk + 7) {
         if is_boxed(nk, i) {
@@ -73,16 +68,14 @@ fn key_words(walk: &mut Walk, nk: usize, d: usize)
 }
 
 // The S-boxes of round r, row by row.
-fn round(walk: &mut Walk, d: usize, r: usize)
-    requires { d ≤ 8 }
-{
+fn round(walk: &mut Walk, d: Order, r: usize) {
     for m in 0..16usize {
         sbox_line(walk, d, Part::Round(r), m / 4 + 4 * (m % 4));
     }
 }
 
-fn rounds(walk: &mut Walk, nk: usize, d: usize)
-    requires { (d ≤ 8) × (nk ≤ 8) }
+fn rounds(walk: &mut Walk, nk: usize, d: Order)
+    requires { nk ≤ 8 }
 {
     for r in 1..nk + 7 {
         round(walk, d, r);
@@ -98,9 +91,7 @@ fn print_need(name: &[u8], bytes: usize) {
 
 // How much the library asks for: in the single call, and in each of the two calls from prepared keys. Then how the lines are read for a decryption,
 // whose rounds FIPS 197 counts down.
-fn print_needs(key: KeyWords, d: usize)
-    requires { d ≤ 8 }
-{
+fn print_needs(key: KeyWords, d: Order) {
     print_need(b"total ", lengths::needs::cipher_need(key, d));
     print_need(b"\npreparation ", lengths::needs::schedule_need(key, d));
     print_need(b"; rounds ", lengths::needs::encrypted_with_need(key, d));
@@ -110,9 +101,7 @@ fn print_needs(key: KeyWords, d: usize)
 }
 
 // All S-boxes of a call with a key of that size, and its needs.
-pub fn print(key: KeyWords, d: usize)
-    requires { d ≤ 8 }
-{
+pub fn print(key: KeyWords, d: Order) {
     text::print(b"ranges are in bytes; tape word k has bytes 4*k to 4*k+3, the lowest first\n");
     let mut walk = Walk::new();
     key_words(&mut walk, key.nk, d);

@@ -15,12 +15,12 @@ use Rattle.outcomes.specs.declared.Count.{Count}
 use Rattle.outcomes.specs.Outcome.{Answer}
 use Rattle.std.specs.Prelude.{Ok}
 use Rattle.outcomes.specs.Outcome.{answered}
-use Rattle.outcomes.proofs.OutcomeLaws.{Passed, ◌and◌, answered-taken, reaches_le}
+use Rattle.outcomes.proofs.OutcomeLaws.{Passed, ◌and◌, others_passed, answered-taken, reaches_le}
 use Rattle.tape_words.specs.Words.{bytes_of, words_for}
 use Rattle.tape_words.proofs.WordsLaws.{reach_words}
 use Rattle.tape_words.proofs.FrontLaws.{unpack_fits, made_on_words}
 use Rattle.masking.specs.Fits.{FactorsFit}
-use Rattle.masking.specs.Calls.{two_fit, factor_served}
+use Rattle.masking.specs.Calls.{two_fit, factor_served, factor_tests}
 
 pub two_fit_lengths : (d a b : ℕ) → two_fit d a b ≡ true → (a ≡ suc d) × (b ≡ suc d)
 unfolding two_fit
@@ -40,14 +40,17 @@ pub record FactorsThrough (room d a b t o : ℕ) : Type 0 where
   pub output : o ≡ room
   pub drawn : words_for (product_need d) ≤ t
 
-factors_passed : (room d a b t o : ℕ) → Passed (factor_served room d a b t o) → FactorsThrough room d a b t o
-factors_passed room d a b t o (i and r and n and p) =
+factors_passed_lem : (room d a b t o : ℕ) → Passed (factor_served room d a b t o) → FactorsThrough room d a b t o
+factors_passed_lem room d a b t o (i and r and n and p) =
     let f = two_fit_lengths d a b i in
     record { left = f.0; right = f.1; output = eqb-true o room r; drawn = reaches_le t _ n }
 
+pub factors_passed : (room d a b t o : ℕ) → Passed (factor_tests room d a b t o) → FactorsThrough room d a b t o
+factors_passed room d a b t o p = factors_passed_lem room d a b t o (others_passed p)
+
 pub factors_through : (room d a b t o : ℕ) (q : Answer) (k c : Count) → q ≡ answered (factor_served room d a b t o) k → q ≡ Ok c
     → FactorsThrough room d a b t o
-factors_through room d a b t o q k c e f = factors_passed room d a b t o (answered-taken _ k c (sym e ∙ f)).0
+factors_through room d a b t o q k c e f = factors_passed_lem room d a b t o (answered-taken _ k c (sym e ∙ f)).0
 
 -- ---- a call on two factors, on a tape of words: what is unpacked for it
 

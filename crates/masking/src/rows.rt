@@ -1,6 +1,6 @@
-// The rows of memory that the bytes of a row's pairs go through (the rule at the head of steps.rt), as one value. Document 01, "The steps over shares",
-// decides what they are.
-ghost use Rattle.std.specs.Prelude.{◌≡◌};
+// The rows of memory that the bytes of a row's pairs go through (the rule at the head of steps.rt), as one value. Document 01, "The steps over
+// shares", decides what they are.
+ghost use Rattle.std.specs.Prelude.{◌≡◌, replicate};
 ghost use Rattle.xor.specs.Lists.{tab};
 ghost use Rattle.xor.specs.Running.{owns};
 ghost use Rattle.xor.specs.Writes.{front};
@@ -20,7 +20,11 @@ pub struct Rows {
 }
 
 impl Rows {
-    pub fn new() -> Rows {
+    // All zero.
+    pub fn new() -> Rows
+        ensures { (result.upper ≡ replicate 8 0) × (result.half ≡ replicate 8 0) × (result.lower ≡ replicate 8 0)
+            × (result.back ≡ replicate 8 0) × (result.own ≡ replicate 8 0) }
+    {
         Rows {
             upper: [0; 8],
             half: [0; 8],

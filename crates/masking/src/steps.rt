@@ -89,6 +89,7 @@ fn back_row(
 // The pairs of row i with the w shares behind it, whose draws stand at the front of the tape, and then its running sums. The bytes of each pair are
 // left over the fronts of four rows: a_i · b_j, the product above the diagonal; r(i, j) XOR a_i · b_j; a_j · b_i, the one below it; and r(j, i).
 // Answers with how many bytes were drawn.
+// Kept: rows one by one, of any length that suffices. `Rows` (rows.rt) lends its own.
 pub fn take_row(
     tables: &Tables,
     i: usize,

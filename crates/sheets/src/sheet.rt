@@ -24,6 +24,7 @@ pub fn place_count(d: Order) -> usize
 }
 
 // P(d) where d is an order that is served, and 0 where it is not.
+// Kept: a number. The reading makes room by it before it asks for the sheet, whose refusal document 01 has it hand up.
 pub fn sheet_size(order: usize) -> usize
     ensures { (Outcome.served order ≡ true → result ≡ Place.place_count order) × (result ≤ 279) }
 {

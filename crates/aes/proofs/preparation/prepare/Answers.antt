@@ -21,7 +21,8 @@ pub returns-in_err-preparation_tested : goal.returns-in_err-preparation_tested
 unfolding prepare_outcome
 returns-in_err-preparation_tested c =
     let n = order_served-ok _ _ (sym c.served.ensures ∙ c.in_ok-d.was) in
-    let e = settled-handed _ _ _ _ _ c.preparation_tested.ensures _ c.in_err-preparation_tested.was _ c.from_residual-in_err-preparation_tested.ensures.1 in
+    let q = c.from_residual-in_err-preparation_tested.ensures.1 in
+    let e = settled-handed _ _ _ _ _ c.preparation_tested.ensures _ c.in_err-preparation_tested.was _ q in
     rw n.0 (e ∙ sym (settled-past _ _ _ _ _ n.1))
 
 pub unwrap-size-requires : goal.unwrap-size-requires

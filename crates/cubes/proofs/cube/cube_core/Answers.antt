@@ -54,7 +54,8 @@ sheet_core-requires c =
 pub overflow_add-result : goal.overflow_add-result
 overflow_add-result c =
     let d = c.args.d in
-    omega (arith, c.sheet_core.ensures.0, c.factor_shown-drawn.ensures.0, cube_need-parts d, cube_need_bound d (omega (arith, c.shares-n.ensures)), c.shares-n.ensures)
+    let few = cube_need_bound d (omega (arith, c.shares-n.ensures)) in
+    omega (arith, c.sheet_core.ensures.0, c.factor_shown-drawn.ensures.0, cube_need-parts d, few)
 
 pub returns : goal.returns
 returns c =

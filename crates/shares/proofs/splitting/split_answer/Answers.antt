@@ -44,7 +44,8 @@ pub returns-then-tape-need : goal.returns-then-tape-need
 returns-then-tape-need c =
     let a = c.args in
     let l = share_length-found 1 a.input _ _ _ _ c.share_length.ensures c.ok_or.ensures.value c.in_ok-l.was in
-    split-answered _ _ a.d a.input a.tape a.output _ (sym l.0) (c.words_for-need.ensures ∙ ap (λ (n : ℕ). words_for (n * c.in_ok-l.l)) c.number.ensures.0)
+    let need = c.words_for-need.ensures ∙ ap (λ (n : ℕ). words_for (n * c.in_ok-l.l)) c.number.ensures.0 in
+    split-answered _ _ a.d a.input a.tape a.output _ (sym l.0) need
     (answered_next _ _ _ _ (lt-ltb 0 c.in_ok-l.l l.1)
     (answered_next _ _ _ _ (eq-eqb _ _ (c.if-output-shares.false ∙ ap (λ (n : ℕ). n * c.in_ok-l.l) c.shares.ensures.0))
     (answered_here _ _ _ _ (lt_reaches _ _ c.if-tape-need.true))))
@@ -53,7 +54,8 @@ pub returns : goal.returns
 returns c =
     let a = c.args in
     let l = share_length-found 1 a.input _ _ _ _ c.share_length.ensures c.ok_or.ensures.value c.in_ok-l.was in
-    split-answered _ _ a.d a.input a.tape a.output _ (sym l.0) (c.words_for-need.ensures ∙ ap (λ (n : ℕ). words_for (n * c.in_ok-l.l)) c.number.ensures.0)
+    let need = c.words_for-need.ensures ∙ ap (λ (n : ℕ). words_for (n * c.in_ok-l.l)) c.number.ensures.0 in
+    split-answered _ _ a.d a.input a.tape a.output _ (sym l.0) need
     (answered_next _ _ _ _ (lt-ltb 0 c.in_ok-l.l l.1)
     (answered_next _ _ _ _ (eq-eqb _ _ (c.if-output-shares.false ∙ ap (λ (n : ℕ). n * c.in_ok-l.l) c.shares.ensures.0))
     (answered_next _ _ _ _ (le_reaches _ _ c.if-tape-need.false) (answered-none _))))
