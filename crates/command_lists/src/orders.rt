@@ -5,27 +5,25 @@ use command_line::arguments;
 use command_line::stops::Stop;
 use lengths::key::KeyWords;
 use lengths::sizes;
-use outcomes::Refusal;
+use outcomes::{Order, Refusal};
 use std::env::Env;
 use text::answers::Cause;
 
 fn served(order: usize) -> Result<usize, Cause>
     ensures { IfOk result (λ d. d ≤ 8) }
 {
-    if !outcomes::asked::served(order) {
-        return Err(Cause::from(Refusal::Order));
-    }
-    Ok(order)
+    Ok(Order::served(order)?.number())
 }
 
 // The size of a key of that many bytes.
 fn key_words(size: usize) -> Result<KeyWords, Cause>
     ensures { IfOk result (λ key. 4 * key.nk ≡ size) }
 {
-    sizes::key_words(0, size).ok_or(Cause::from(Refusal::Key))
+    sizes::key_words(Order::new(0), size).ok_or(Cause::from(Refusal::Key))
 }
 
 // ORDER, argument i.
+// Kept: a number, of which the caller makes an `Order`. The check has no rule yet for a `?` where the `Result` has an `Order` or a `Stop`.
 pub fn served_order<R: Env>(rt: &R, i: usize) -> Result<usize, Stop>
     ensures { IfOk result (λ d. d ≤ 8) }
 {

@@ -1,14 +1,16 @@
 // The command `sheet`: all places of a product with their bytes.
 use command_line::stops::Stop;
+use outcomes::Order;
 use text::answers;
-use text::answers::Table;
+use text::answers::{Cause, Table};
 
 pub fn run(order: usize, left: &[u8], right: &[u8], tape: &[u32]) -> Result<(), Stop> {
+    let d = Order::served(order).map_err(Cause::from)?;
     let mut room = io::buffer();
-    let sheet = &mut room[..sheets::sheet::sheet_size(order)];
+    let sheet = &mut room[..sheets::sheet::place_count(d)];
     let answer = sheets::product_sheet(order, left, right, tape, sheet);
     let count = answers::counted(answer, Table::Document01)?;
-    listing::places::print(order, sheet);
+    listing::places::print(d, sheet);
     answers::print_taken(count);
     Ok(())
 }

@@ -17,4 +17,4 @@ sized (Some k) r size q e h =
     rw e (omega (arith, h, key_length 0 size p))
 
 pub returns : goal.returns
-returns c = sized _ _ _ _ c.ok_or.ensures.value c.key_words.ensures.some
+returns c = sized _ _ _ _ c.ok_or.ensures.value (rw c.new.ensures at c.key_words.ensures.some)
