@@ -7,6 +7,7 @@ ghost use Rattle.gadgets.specs.Cube.{cube_count};
 
 use listing::lines;
 use listing::lines::Lines;
+use outcomes::Order;
 
 // `x_0*x_0`
 fn print_square(i: usize) {
@@ -60,18 +61,17 @@ pub fn pairs<F: Fn(usize)>(lines: &mut Lines, n: usize, share: F)
 
 // All places of the cube at order d. In its product, a is the refreshed square and b is x.
 #[tactic(auto, using(crate::proofs::CubeCounts::cube_count_parts))]
-pub fn cube(lines: &mut Lines, d: usize)
-    requires { (d ≤ 8) × (lines.old.next + cube_count d ≤ most) }
+pub fn cube(lines: &mut Lines, d: Order)
+    requires { lines.old.next + cube_count d ≤ most }
     ensures { lines.new.next ≡ lines.old.next + cube_count d }
 {
-    lines.each(d + 1, print_square);
-    pairs(lines, d + 1, print_square);
+    let n = d.shares();
+    lines.each(n, print_square);
+    pairs(lines, n, print_square);
     listing::places::product(lines, d);
 }
 
 #[tactic(auto, using(crate::proofs::CubeCounts::cube_count_bound))]
-pub fn print(d: usize, sheet: &[u8]) {
-    if d <= 8 {
-        cube(&mut Lines::new(sheet), d);
-    }
+pub fn print(d: Order, sheet: &[u8]) {
+    cube(&mut Lines::new(sheet), d);
 }
