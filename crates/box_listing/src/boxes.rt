@@ -7,11 +7,12 @@ use crate::groups;
 use crate::groups::AffineNames;
 use gf256::Direction;
 use listing::lines::Lines;
+use outcomes::Order;
 
 // Power 254, and then the affine map.
 #[tactic(auto, using(crate::proofs::PartLaws::box_count_parts))]
-fn forward(lines: &mut Lines, d: usize)
-    requires { (d ≤ 8) × (lines.old.next + box_count d ≤ most) }
+fn forward(lines: &mut Lines, d: Order)
+    requires { lines.old.next + box_count d ≤ most }
     ensures { lines.new.next ≡ lines.old.next + box_count d }
 {
     text::print(b"x: the shares of the input\n");
@@ -24,13 +25,13 @@ fn forward(lines: &mut Lines, d: usize)
         constant: b"^63",
         output: b"o_",
     };
-    groups::affine(lines, names, d + 1);
+    groups::affine(lines, names, d.shares());
 }
 
 // The inverse affine map, and then power 254.
 #[tactic(auto, using(crate::proofs::PartLaws::box_count_parts))]
-fn inverse(lines: &mut Lines, d: usize)
-    requires { (d ≤ 8) × (lines.old.next + box_count d ≤ most) }
+fn inverse(lines: &mut Lines, d: Order)
+    requires { lines.old.next + box_count d ≤ most }
     ensures { lines.new.next ≡ lines.old.next + box_count d }
 {
     text::print(
@@ -41,15 +42,14 @@ fn inverse(lines: &mut Lines, d: usize)
         constant: b"^05",
         output: b"x_",
     };
-    groups::affine(lines, names, d + 1);
+    groups::affine(lines, names, d.shares());
     text::print(b"x; its power 254, p, is the output\n");
     crate::power::power(lines, d);
 }
 
 // All places. Answers with their number.
 #[tactic(auto, using(place_counts::proofs::CountLaws::box_count_bound))]
-pub fn print(w: Direction, d: usize) -> usize
-    requires { d ≤ 8 }
+pub fn print(w: Direction, d: Order) -> usize
     ensures { result ≡ box_count d }
 {
     let mut lines = Lines::new(&[]);

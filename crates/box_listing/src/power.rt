@@ -7,41 +7,44 @@ use crate::groups;
 use command_cubes::names;
 use listing::lines::Lines;
 use listing::places;
+use outcomes::Order;
 
 // A product and the factors of its field products, each under its title.
 #[tactic(auto, using(crate::proofs::PartLaws::times_count_parts))]
-fn times(lines: &mut Lines, d: usize, title: &[u8], factors: &[u8])
-    requires { (d ≤ 8) × (lines.old.next + times_count d ≤ most) }
+fn times(lines: &mut Lines, d: Order, title: &[u8], factors: &[u8])
+    requires { lines.old.next + times_count d ≤ most }
     ensures { lines.new.next ≡ lines.old.next + times_count d }
 {
     text::print(title);
     places::product(lines, d);
     text::print(factors);
-    groups::factors(lines, d + 1);
+    groups::factors(lines, d.shares());
 }
 
 // z = x², refreshed, and y = z·x. The title of x is the caller's.
 #[tactic(auto, using(crate::proofs::PartLaws::first_count_parts))]
-fn first_stage(lines: &mut Lines, d: usize)
-    requires { (d ≤ 8) × (lines.old.next + first_count d ≤ most) }
+fn first_stage(lines: &mut Lines, d: Order)
+    requires { lines.old.next + first_count d ≤ most }
     ensures { lines.new.next ≡ lines.old.next + first_count d }
 {
-    places::factor(lines, b"x_", d + 1);
+    let n = d.shares();
+    places::factor(lines, b"x_", n);
     text::print(b"z = x*x refreshed; y = z*x: a is z, b is x, c is y\n");
     names::cube(lines, d);
     text::print(b"y = z*x: both factors of each field product, as one value\n");
-    groups::factors(lines, d + 1);
+    groups::factors(lines, n);
 }
 
 // w = y⁴, refreshed, and v = y·w.
 #[tactic(auto, using(crate::proofs::PartLaws::second_count_parts))]
-fn second_stage(lines: &mut Lines, d: usize)
-    requires { (d ≤ 8) × (lines.old.next + second_count d ≤ most) }
+fn second_stage(lines: &mut Lines, d: Order)
+    requires { lines.old.next + second_count d ≤ most }
     ensures { lines.new.next ≡ lines.old.next + second_count d }
 {
+    let n = d.shares();
     text::print(b"q = y to the 4; w = q refreshed\n");
-    groups::powers(lines, b"y_", d + 1, 3);
-    names::pairs(lines, d + 1, |i| text::print_with(b"q_", i));
+    groups::powers(lines, b"y_", n, 3);
+    names::pairs(lines, n, |i| text::print_with(b"q_", i));
     times(
         lines,
         d,
@@ -52,12 +55,12 @@ fn second_stage(lines: &mut Lines, d: usize)
 
 // u = v¹⁶·w, and p = u·z.
 #[tactic(auto, using(crate::proofs::PartLaws::last_count_parts))]
-fn last_stage(lines: &mut Lines, d: usize)
-    requires { (d ≤ 8) × (lines.old.next + last_count d ≤ most) }
+fn last_stage(lines: &mut Lines, d: Order)
+    requires { lines.old.next + last_count d ≤ most }
     ensures { lines.new.next ≡ lines.old.next + last_count d }
 {
     text::print(b"s = v to the 16\n");
-    groups::powers(lines, b"v_", d + 1, 5);
+    groups::powers(lines, b"v_", d.shares(), 5);
     times(
         lines,
         d,
@@ -73,8 +76,8 @@ fn last_stage(lines: &mut Lines, d: usize)
 }
 
 #[tactic(auto, using(crate::proofs::PartLaws::power_count_parts))]
-pub fn power(lines: &mut Lines, d: usize)
-    requires { (d ≤ 8) × (lines.old.next + power_count d ≤ most) }
+pub fn power(lines: &mut Lines, d: Order)
+    requires { lines.old.next + power_count d ≤ most }
     ensures { lines.new.next ≡ lines.old.next + power_count d }
 {
     first_stage(lines, d);

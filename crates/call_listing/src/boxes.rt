@@ -7,11 +7,12 @@ ghost use Rattle.call_listing.specs.Walk.{most};
 
 use crate::lines;
 use listing::walk::{Part, Walk};
+use outcomes::Order;
 
 // The S-box that byte k goes into.
 #[tactic(auto, using(place_counts::proofs::CountLaws::box_count_some))]
-fn sbox(walk: &mut Walk, d: usize, part: Part, k: usize)
-    requires { (d ≤ 8) × (walk.old.at + box_count d ≤ most) }
+fn sbox(walk: &mut Walk, d: Order, part: Part, k: usize)
+    requires { walk.old.at + box_count d ≤ most }
     ensures { walk.new.at ≡ walk.old.at + box_count d }
 {
     lines::range(walk, place_counts::box_count(d));
@@ -21,8 +22,8 @@ fn sbox(walk: &mut Walk, d: usize, part: Part, k: usize)
 
 // Those for word i of the expanded key, of the bytes of the word before it.
 #[tactic(auto, using(crate::proofs::WalkLaws::boxes_fit, crate::proofs::WalkLaws::subs_count_word))]
-pub fn of_word(walk: &mut Walk, d: usize, i: usize)
-    requires { (d ≤ 8) × (walk.old.at + subs_count d in_word ≤ most) }
+pub fn of_word(walk: &mut Walk, d: Order, i: usize)
+    requires { walk.old.at + subs_count d in_word ≤ most }
     ensures { walk.new.at ≡ walk.old.at + subs_count d in_word }
 {
     for k in 0..4usize {
@@ -32,8 +33,8 @@ pub fn of_word(walk: &mut Walk, d: usize, i: usize)
 
 // Those of round r, row by row.
 #[tactic(auto, using(crate::proofs::WalkLaws::boxes_fit, crate::proofs::WalkLaws::subs_count_rows))]
-pub fn of_round(walk: &mut Walk, d: usize, r: usize)
-    requires { (d ≤ 8) × (walk.old.at + subs_count d by_rows ≤ most) }
+pub fn of_round(walk: &mut Walk, d: Order, r: usize)
+    requires { walk.old.at + subs_count d by_rows ≤ most }
     ensures { walk.new.at ≡ walk.old.at + subs_count d by_rows }
 {
     for m in 0..16usize {

@@ -8,6 +8,7 @@ use crate::lines;
 use gf256::Direction;
 use lengths::key::KeyWords;
 use listing::walk::Walk;
+use outcomes::Order;
 
 // How the places of a range are ordered.
 fn print_reading(w: Direction) {
@@ -29,8 +30,8 @@ round 1 is the first to run, and state bytes are those after InvShiftRows\n",
 }
 
 // The shares of the key and of the block.
-fn inputs(walk: &mut Walk, nk: usize, d: usize)
-    requires { (d ≤ 8) × (nk ≤ 8) × (walk.old.at + string_count (4 * nk) d + string_count 16 d ≤ most) }
+fn inputs(walk: &mut Walk, nk: usize, d: Order)
+    requires { (nk ≤ 8) × (walk.old.at + string_count (4 * nk) d + string_count 16 d ≤ most) }
     ensures { walk.new.at ≡ walk.old.at + string_count (4 * nk) d + string_count 16 d }
 {
     lines::string(walk, 4 * nk, d);
@@ -41,8 +42,8 @@ fn inputs(walk: &mut Walk, nk: usize, d: usize)
 
 // What follows the key expansion: the block plus the first round key that is used, and the rounds.
 #[tactic(auto, using(crate::proofs::WalkLaws::with_of_parts))]
-fn with_keys(walk: &mut Walk, w: Direction, nk: usize, d: usize)
-    requires { (d ≤ 8) × (nk ≤ 8) × (walk.old.at + with_of w nk d ≤ most) }
+fn with_keys(walk: &mut Walk, w: Direction, nk: usize, d: Order)
+    requires { (nk ≤ 8) × (walk.old.at + with_of w nk d ≤ most) }
     ensures { walk.new.at ≡ walk.old.at + with_of w nk d }
 {
     lines::string(walk, 16, d);
@@ -56,8 +57,7 @@ fn with_keys(walk: &mut Walk, w: Direction, nk: usize, d: usize)
 
 // All places of a call with a key of that size. Answers with their number.
 #[tactic(auto, using(crate::proofs::WalkLaws::call_count_parts))]
-pub fn print(w: Direction, key: KeyWords, d: usize) -> usize
-    requires { d ≤ 8 }
+pub fn print(w: Direction, key: KeyWords, d: Order) -> usize
     ensures { result ≡ call_count w key.nk d }
 {
     print_reading(w);

@@ -6,11 +6,12 @@ ghost use Rattle.call_listing.specs.Walk.{most};
 
 use crate::{boxes, lines};
 use listing::walk::Walk;
+use outcomes::Order;
 
 // The temporary word of a word that Rcon goes into.
 #[tactic(auto, unfolding(probing::specs::SchedulePlaces::temp_count))]
-fn turned_temp(walk: &mut Walk, d: usize, i: usize)
-    requires { (d ≤ 8) × (walk.old.at + temp_count d turned ≤ most) }
+fn turned_temp(walk: &mut Walk, d: Order, i: usize)
+    requires { walk.old.at + temp_count d turned ≤ most }
     ensures { walk.new.at ≡ walk.old.at + temp_count d turned }
 {
     boxes::of_word(walk, d, i);
@@ -20,8 +21,8 @@ fn turned_temp(walk: &mut Walk, d: usize, i: usize)
 
 // The temporary word as word i wants it.
 #[tactic(auto, using(crate::proofs::WalkLaws::temp_counts))]
-fn temp(walk: &mut Walk, nk: usize, d: usize, i: usize)
-    requires { (d ≤ 8) × (1 ≤ nk) × (walk.old.at + temp_count d (kind nk i) ≤ most) }
+fn temp(walk: &mut Walk, nk: usize, d: Order, i: usize)
+    requires { (1 ≤ nk) × (walk.old.at + temp_count d (kind nk i) ≤ most) }
     ensures { walk.new.at ≡ walk.old.at + temp_count d (kind nk i) }
 {
     match i % nk {
@@ -32,8 +33,8 @@ fn temp(walk: &mut Walk, nk: usize, d: usize, i: usize)
 }
 
 #[tactic(auto, unfolding(probing::specs::SchedulePlaces::word_count))]
-fn word(walk: &mut Walk, nk: usize, d: usize, i: usize)
-    requires { (d ≤ 8) × (1 ≤ nk) × (walk.old.at + word_count nk d i ≤ most) }
+fn word(walk: &mut Walk, nk: usize, d: Order, i: usize)
+    requires { (1 ≤ nk) × (walk.old.at + word_count nk d i ≤ most) }
     ensures { walk.new.at ≡ walk.old.at + word_count nk d i }
 {
     temp(walk, nk, d, i);
@@ -43,8 +44,8 @@ fn word(walk: &mut Walk, nk: usize, d: usize, i: usize)
 
 // All words behind the key's own.
 #[tactic(auto, using(crate::proofs::WalkLaws::schedule_counts))]
-pub fn words(walk: &mut Walk, nk: usize, d: usize)
-    requires { (d ≤ 8) × (1 ≤ nk) × (nk ≤ 8) × (walk.old.at + schedule_count nk d ≤ most) }
+pub fn words(walk: &mut Walk, nk: usize, d: Order)
+    requires { (1 ≤ nk) × (nk ≤ 8) × (walk.old.at + schedule_count nk d ≤ most) }
     ensures { walk.new.at ≡ walk.old.at + schedule_count nk d }
 {
     for i in nk..4 * (nk + 7) {

@@ -4,6 +4,7 @@ ghost use Rattle.probing.specs.StringPlaces.{string_count};
 ghost use Rattle.call_listing.specs.Walk.{most};
 
 use listing::walk::Walk;
+use outcomes::Order;
 
 // The start of a line, for the next n places.
 pub fn range(walk: &mut Walk, n: usize)
@@ -18,8 +19,8 @@ pub fn range(walk: &mut Walk, n: usize)
 
 // The same for a string of m bytes in shares.
 #[tactic(auto, using(place_counts::proofs::CountLaws::string_count_some))]
-pub fn string(walk: &mut Walk, m: usize, d: usize)
-    requires { (d ≤ 8) × (m ≤ 32) × (walk.old.at + string_count m d ≤ most) }
+pub fn string(walk: &mut Walk, m: usize, d: Order)
+    requires { (m ≤ 32) × (walk.old.at + string_count m d ≤ most) }
     ensures { walk.new.at ≡ walk.old.at + string_count m d }
 {
     range(walk, place_counts::string_count(m, d));

@@ -8,23 +8,23 @@ ghost use Rattle.call_listing.specs.Walk.{most, mix_of, round_of, rounds_of};
 use crate::{boxes, lines};
 use gf256::Direction;
 use listing::walk::Walk;
+use outcomes::Order;
 
 // How many places MixColumns or InvMixColumns has.
 #[tactic(auto, unfolding(crate::specs::Walk::mix_of))]
-fn mix_count(w: Direction, d: usize) -> usize
-    requires { d ≤ 8 }
+fn mix_count(w: Direction, d: Order) -> usize
     ensures { result ≡ mix_of w d }
 {
     match w {
-        Direction::Forward => (d + 1) * 81,
-        Direction::Inverse => (d + 1) * 113,
+        Direction::Forward => d.shares() * 81,
+        Direction::Inverse => d.shares() * 113,
     }
 }
 
 // Its line.
 #[tactic(auto, using(crate::proofs::WalkLaws::mix_some))]
-fn mixed(walk: &mut Walk, w: Direction, d: usize, r: usize)
-    requires { (d ≤ 8) × (walk.old.at + mix_of w d ≤ most) }
+fn mixed(walk: &mut Walk, w: Direction, d: Order, r: usize)
+    requires { walk.old.at + mix_of w d ≤ most }
     ensures { walk.new.at ≡ walk.old.at + mix_of w d }
 {
     lines::range(walk, mix_count(w, d));
@@ -34,8 +34,8 @@ fn mixed(walk: &mut Walk, w: Direction, d: usize, r: usize)
     }
 }
 
-fn added(walk: &mut Walk, d: usize, r: usize)
-    requires { (d ≤ 8) × (walk.old.at + string_count 16 d ≤ most) }
+fn added(walk: &mut Walk, d: Order, r: usize)
+    requires { walk.old.at + string_count 16 d ≤ most }
     ensures { walk.new.at ≡ walk.old.at + string_count 16 d }
 {
     lines::string(walk, 16, d);
@@ -43,8 +43,8 @@ fn added(walk: &mut Walk, d: usize, r: usize)
 }
 
 // What stands behind the S-boxes of a round that is not the last.
-fn linear(walk: &mut Walk, w: Direction, d: usize, r: usize)
-    requires { (d ≤ 8) × (walk.old.at + (mix_of w d + string_count 16 d) ≤ most) }
+fn linear(walk: &mut Walk, w: Direction, d: Order, r: usize)
+    requires { walk.old.at + (mix_of w d + string_count 16 d) ≤ most }
     ensures { walk.new.at ≡ walk.old.at + (mix_of w d + string_count 16 d) }
 {
     match w {
@@ -60,8 +60,8 @@ fn linear(walk: &mut Walk, w: Direction, d: usize, r: usize)
 }
 
 #[tactic(auto, using(crate::proofs::WalkLaws::round_of_parts))]
-fn round(walk: &mut Walk, w: Direction, d: usize, r: usize)
-    requires { (d ≤ 8) × (walk.old.at + round_of w d ≤ most) }
+fn round(walk: &mut Walk, w: Direction, d: Order, r: usize)
+    requires { walk.old.at + round_of w d ≤ most }
     ensures { walk.new.at ≡ walk.old.at + round_of w d }
 {
     boxes::of_round(walk, d, r);
@@ -69,8 +69,8 @@ fn round(walk: &mut Walk, w: Direction, d: usize, r: usize)
 }
 
 #[tactic(auto, unfolding(probing::specs::RoundPlaces::last_round_count))]
-fn last_round(walk: &mut Walk, d: usize, r: usize)
-    requires { (d ≤ 8) × (walk.old.at + last_round_count d ≤ most) }
+fn last_round(walk: &mut Walk, d: Order, r: usize)
+    requires { walk.old.at + last_round_count d ≤ most }
     ensures { walk.new.at ≡ walk.old.at + last_round_count d }
 {
     boxes::of_round(walk, d, r);
@@ -79,8 +79,8 @@ fn last_round(walk: &mut Walk, d: usize, r: usize)
 
 // All rounds.
 #[tactic(auto, using(crate::proofs::WalkLaws::rounds_counts))]
-pub fn rounds(walk: &mut Walk, w: Direction, nk: usize, d: usize)
-    requires { (d ≤ 8) × (nk ≤ 8) × (walk.old.at + rounds_of w (Fips197.rounds nk - 1) d ≤ most) }
+pub fn rounds(walk: &mut Walk, w: Direction, nk: usize, d: Order)
+    requires { (nk ≤ 8) × (walk.old.at + rounds_of w (Fips197.rounds nk - 1) d ≤ most) }
     ensures { walk.new.at ≡ walk.old.at + rounds_of w (Fips197.rounds nk - 1) d }
 {
     for r in 1..nk + 6 {

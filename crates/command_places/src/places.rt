@@ -4,6 +4,7 @@ use command_line::commands::has_words;
 use command_line::stops::Stop;
 use command_lists::orders;
 use gf256::Direction;
+use outcomes::Order;
 use std::env::Env;
 
 fn of_product<R: Env>(rt: &R) -> Result<(), Stop> {
@@ -14,14 +15,14 @@ fn of_product<R: Env>(rt: &R) -> Result<(), Stop> {
 fn of_box<R: Env>(rt: &R, w: Direction) -> Result<(), Stop> {
     has_words(arguments::count(rt), 4)?;
     let order = orders::served_order(rt, 3)?;
-    box_listing::boxes::print(w, order);
+    box_listing::boxes::print(w, Order::new(order));
     Ok(())
 }
 
 fn of_call<R: Env>(rt: &R, w: Direction) -> Result<(), Stop> {
     has_words(arguments::count(rt), 5)?;
     let (order, key) = orders::served_call(rt, 3)?;
-    call_listing::call::print(w, key, order);
+    call_listing::call::print(w, key, Order::new(order));
     Ok(())
 }
 

@@ -1,13 +1,13 @@
 -- The code's counts are those of the definitions, and fit. Assumes nothing.
-use Rattle.std.proofs.Common.{◌≡◌, ℕ, ◌+◌, ◌*◌, ◌≤◌, sym, mul-le-mul, arith}
+use Rattle.std.proofs.Common.{◌≡◌, ℕ, suc, ◌+◌, ◌*◌, ◌≤◌, mul-le-mul, arith}
 use Rattle.probing.specs.BoxPlaces.{box_count}
 use Rattle.probing.specs.StringPlaces.{string_count}
 use Rattle.probing.proofs.PlaceCounts.{box_count_is}
 
 -- ---- an S-box
 
-pub box_count_made : (d : ℕ) → 3 * (d + 1) * (7 * d + 10) ≡ box_count d
-box_count_made d = sym (box_count_is d)
+pub box_count_made : (d : ℕ) → 3 * suc d * (7 * d + 10) ≡ box_count d
+box_count_made d = omega (arith, box_count_is d)
 
 pub box_count_bound : (d : ℕ) → d ≤ 8 → box_count d ≤ 1782
 box_count_bound d h =
@@ -21,7 +21,7 @@ box_count_some d = omega arith
 
 -- ---- a string in shares
 
-pub string_count_made : (m d : ℕ) → (d + 1) * (m + 1) ≡ string_count m d
+pub string_count_made : (m d : ℕ) → suc d * (m + 1) ≡ string_count m d
 unfolding string_count
 string_count_made m d = omega arith
 

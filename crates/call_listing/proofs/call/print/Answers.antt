@@ -8,17 +8,17 @@ use Rattle.call_listing.proofs.call.print.Goals as goal
 pub inputs-requires : goal.inputs-requires
 inputs-requires c =
     let size = size_bounds (even-sized _ c.args.key.sized) in
-    let small = call_count_bound c.args.w (even-sized _ c.args.key.sized) c.args.d c.requires in
-    (omega arith, omega arith, omega (arith, call_count_parts))
+    let small = call_count_bound c.args.w (even-sized _ c.args.key.sized) c.args.d (omega arith) in
+    (omega arith, omega (arith, call_count_parts))
 
 pub words-requires : goal.words-requires
 words-requires c =
     let size = size_bounds (even-sized _ c.args.key.sized) in
-    let small = call_count_bound c.args.w (even-sized _ c.args.key.sized) c.args.d c.requires in
-    (omega arith, omega arith, omega arith, omega (arith, call_count_parts))
+    let small = call_count_bound c.args.w (even-sized _ c.args.key.sized) c.args.d (omega arith) in
+    (omega arith, omega arith, omega (arith, call_count_parts))
 
 pub with_keys-requires : goal.with_keys-requires
 with_keys-requires c =
     let size = size_bounds (even-sized _ c.args.key.sized) in
-    let small = call_count_bound c.args.w (even-sized _ c.args.key.sized) c.args.d c.requires in
-    (omega arith, omega arith, omega (arith, call_count_parts))
+    let small = call_count_bound c.args.w (even-sized _ c.args.key.sized) c.args.d (omega arith) in
+    (omega arith, omega (arith, call_count_parts))
