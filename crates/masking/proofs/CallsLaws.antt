@@ -14,8 +14,8 @@ use Rattle.outcomes.specs.declared.Refusal.TheVariants.{Order, Input, Output, Ta
 use Rattle.outcomes.specs.declared.Count.{Count}
 use Rattle.outcomes.specs.Outcome.{Answer}
 use Rattle.std.specs.Prelude.{Ok}
-use Rattle.outcomes.specs.Outcome.{answered}
-use Rattle.outcomes.proofs.OutcomeLaws.{Passed, ◌and◌, others_passed, answered-taken, reaches_le}
+use Rattle.outcomes.specs.Outcome.{answered, served}
+use Rattle.outcomes.proofs.OutcomeLaws.{Passed, ◌and◌, others_passed, answered-behind, answered-taken, reaches_le}
 use Rattle.tape_words.specs.Words.{bytes_of, words_for}
 use Rattle.tape_words.proofs.WordsLaws.{reach_words}
 use Rattle.tape_words.proofs.FrontLaws.{unpack_fits, made_on_words}
@@ -29,9 +29,15 @@ two_fit_lengths d a b e =
     (eqb-true a (suc d) h.0, eqb-true b (suc d) h.1)
 
 -- the room that was found
-pub factors_answered : {room' : ℕ} (room d a b t o : ℕ) (k : Count) (q : Answer) → room' ≡ room
+pub factors-room : {room' : ℕ} (room d a b t o : ℕ) (k : Count) (q : Answer) → room' ≡ room
     → q ≡ answered (factor_served room' d a b t o) k → q ≡ answered (factor_served room d a b t o) k
-factors_answered room d a b t o k q same e = e ∙ ap (λ (n : ℕ). answered (factor_served n d a b t o) k) same
+factors-room room d a b t o k q same e = e ∙ ap (λ (n : ℕ). answered (factor_served n d a b t o) k) same
+
+-- of all tests: the room counts only where the order is served
+pub factors_answered : (room' room d a b t o : ℕ) (k : Count) (q : Answer) → (served d ≡ true → room' ≡ room)
+    → q ≡ answered (factor_tests room' d a b t o) k → q ≡ answered (factor_tests room d a b t o) k
+factors_answered room' room d a b t o k q same e =
+    e ∙ answered-behind Order (served d) _ _ k (λ u. ap (λ (n : ℕ). factor_served n d a b t o) (same u))
 
 -- a call that is let through
 pub record FactorsThrough (room d a b t o : ℕ) : Type 0 where

@@ -4,7 +4,7 @@ use Rattle.outcomes.specs.Outcome.{took}
 use Rattle.outcomes.proofs.OutcomeLaws.{order_served-ok, settled-unserved, settled-past, settled-handed, settled-done}
 use Rattle.tape_words.proofs.WordsLaws.{words_reach}
 use Rattle.masking.specs.Calls.{product_outcome}
-use Rattle.masking.proofs.CallsLaws.{factors_answered, factors_through}
+use Rattle.masking.proofs.CallsLaws.{factors-room, factors_through}
 use Rattle.masking.proofs.product.masked_product.Goals as goal
 
 pub returns-in_err-d : goal.returns-in_err-d
@@ -15,13 +15,13 @@ pub returns-in_err-factors_tested : goal.returns-in_err-factors_tested
 unfolding product_outcome
 returns-in_err-factors_tested c =
     let n = order_served-ok _ _ (sym c.served.ensures ∙ c.in_ok-d.was) in
-    let e = factors_answered _ _ _ _ _ _ _ _ c.shares.ensures.0 c.factors_tested.ensures in
+    let e = factors-room _ _ _ _ _ _ _ _ c.shares.ensures.0 c.factors_tested.ensures in
     let f = settled-handed _ _ _ _ _ e _ c.in_err-factors_tested.was _ c.from_residual-in_err-factors_tested.ensures.1 in
     rw n.0 (f ∙ sym (settled-past _ _ _ _ _ n.1))
 
 pub product_on_words-requires : goal.product_on_words-requires
 product_on_words-requires c =
-    let e = factors_answered _ _ _ _ _ _ _ _ c.shares.ensures.0 c.factors_tested.ensures in
+    let e = factors-room _ _ _ _ _ _ _ _ c.shares.ensures.0 c.factors_tested.ensures in
     let h = factors_through _ _ _ _ _ _ _ _ _ e c.in_ok-factors_tested.was in
     (record { left = h.left; right = h.right; drawn = words_reach _ c.args.tape.now h.drawn }, h.output)
 
@@ -29,6 +29,6 @@ pub returns : goal.returns
 unfolding product_outcome
 returns c =
     let n = order_served-ok _ _ (sym c.served.ensures ∙ c.in_ok-d.was) in
-    let e = factors_answered _ _ _ _ _ _ _ _ c.shares.ensures.0 c.factors_tested.ensures in
+    let e = factors-room _ _ _ _ _ _ _ _ c.shares.ensures.0 c.factors_tested.ensures in
     let f = settled-done _ _ _ _ _ e _ _ _ c.in_ok-factors_tested.was (ap took c.product_on_words.ensures.0) c.product_on_words.ensures.1 in
     rw n.0 (f ∙ sym (settled-past _ _ _ _ _ n.1))
