@@ -5,7 +5,7 @@ ghost use Rattle.command_calls.specs.Called.{called};
 
 use command_line::commands::Command;
 use lengths::sizes;
-use outcomes::{Answer, Refusal};
+use outcomes::{Answer, Order, Refusal};
 use text::answers;
 use text::answers::{Cause, Table};
 
@@ -14,8 +14,8 @@ use text::answers::{Cause, Table};
 fn room(c: Command, order: usize, length: usize) -> usize
     ensures { result ≤ 2160 }
 {
-    let d = order.min(8);
-    let n = d + 1;
+    let d = Order::new(order.min(8));
+    let n = d.shares();
     match c {
         Command::Encrypt | Command::Decrypt | Command::EncryptPrepared => n * 16,
         Command::Prepare => match sizes::key_words(d, length) {

@@ -1,5 +1,5 @@
 -- `command_calls::routines::room` meets its contract. Assumes nothing.
-use Rattle.std.proofs.Common.{◌≡◌, ℕ, ◌+◌, ◌≤◌, arith, sym, ◌∙◌}
+use Rattle.std.proofs.Common.{◌≡◌, ℕ, ◌≤◌, arith, sym}
 use Rattle.std.specs.Prelude.{Option, Some, None}
 use Rattle.std.specs.Option.{unwrap_or}
 use native.Mathlib.Nat.{mul-le-mul}
@@ -14,10 +14,9 @@ share_or_none (Some l) n b q e f = omega (arith, share_length_le n b, (share_len
 
 pub returns-in-Split : goal.returns-in-Split
 returns-in-Split c =
-    let n : c.min-d.result + 1 ≤ 9 = omega (arith, c.min-d.ensures) in
-    let l : c.min.result ≤ 32 = omega (arith, c.min.ensures) in
-    omega (arith, mul-le-mul n l)
+    let l : c.min-in-Split.result ≤ 32 = omega (arith, c.min-in-Split.ensures) in
+    omega (arith, mul-le-mul c.shares-n.ensures.1 l)
 
 pub returns-in-Join : goal.returns-in-Join
 returns-in-Join c =
-    omega (arith, share_or_none c.share_length.result (c.min-d.result + 1) c.args.length c.unwrap_or.result c.share_length.ensures c.unwrap_or.ensures)
+    omega (arith, share_or_none c.share_length.result c.shares-n.result c.args.length c.unwrap_or.result c.share_length.ensures c.unwrap_or.ensures)
