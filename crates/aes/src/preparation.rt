@@ -45,5 +45,5 @@ pub fn encrypt_prepared(
         tape,
         output,
     );
-    Ok(Count { taken: taken })
+    Ok(Count { taken })
 }

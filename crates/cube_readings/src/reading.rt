@@ -4,10 +4,10 @@ ghost use Rattle.outcomes.specs.Outcome.{outcome, served};
 ghost use Rattle.gadgets.specs.Cube as Cube;
 ghost use Rattle.cube_readings.specs.Calls.{cube_reading_outcome};
 
-use outcomes::{Answer, Order};
+use outcomes::Answer;
 
 // The reading, with room for the sheet, whose refusals 1, 3 and 5 are handed up.
-// Kept: `let .. else` and no `?`, the form that document 01 names for it, in either reading.
+// Kept: `let .. else` and no `?`, the form that document 01 names for it, in either reading; what they share is `read_listed`.
 fn read_with(
     order: usize,
     input: &[u8],
@@ -37,8 +37,7 @@ pub fn read_cube_places(
     ensures { outcome result output.new
         ≡ cube_reading_outcome order input.now tape.now list.now output.old }
 {
-    let d = Order::served(order)?;
     let mut sheet = [0u8; 396];
-    let size = cubes::cube::cube_count(d);
+    let size = cubes::cube::cube_size(order);
     read_with(order, input, tape, list, &mut sheet[0..size], output)
 }

@@ -1,4 +1,4 @@
-// Squares, and powers 4 and 16, which the tables take by logs. Each is additive, so it acts share by share.
+// Half of an exponent, by which the tables take squares and powers 4 and 16. Each of these is additive, so it acts share by share.
 ghost use Rattle.std.specs.Prelude.{◌≡◌};
 ghost use Rattle.gf256.specs.Exponents.{half_of};
 

@@ -28,8 +28,8 @@ pub fn start_sums(tables: &Tables, n: usize, a: &[u8], b: &[u8], output: &mut [u
     requires { (length output.old ≡ n) × (length a.now ≡ n) × (length b.now ≡ n) }
     ensures { output.new ≡ Steps.starts a.now b.now n }
 {
-    for i in 0..n {
-        output[i] = tables.times(a[i], b[i]);
+    for (i, sum) in output.iter_mut().enumerate() {
+        *sum = tables.times(a[i], b[i]);
     }
 }
 
@@ -51,6 +51,7 @@ fn half_row(
         × (half.new ≡ front (tab (Steps.halves a.now b.now tape.now i) w) half.old) }
 {
     let ai = a[i];
+    // The count rises with each draw, as document 01 has it.
     let mut drawn: usize = 0;
     for (m, r) in tape[..w].iter().enumerate() {
         drawn += 1;
@@ -89,7 +90,7 @@ fn back_row(
 // The pairs of row i with the w shares behind it, whose draws stand at the front of the tape, and then its running sums. The bytes of each pair are
 // left over the fronts of four rows: a_i · b_j, the product above the diagonal; r(i, j) XOR a_i · b_j; a_j · b_i, the one below it; and r(j, i).
 // Answers with how many bytes were drawn.
-// Kept: rows one by one, of any length that suffices. `Rows` (rows.rt) lends its own.
+// Kept: rows one by one. Its contract takes them at any length that suffices, which may not change; `Rows` (rows.rt) lends its own.
 pub fn take_row(
     tables: &Tables,
     i: usize,

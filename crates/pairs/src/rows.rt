@@ -23,6 +23,7 @@ pub fn sum_row(
 {
     let start = sums[i];
     let mut s = start;
+    // The count rises with each draw, as document 01 has it.
     let mut drawn: usize = 0;
     for (m, r) in tape[..w].iter().enumerate() {
         drawn += 1;

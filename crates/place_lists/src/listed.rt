@@ -35,6 +35,7 @@ fn pick_listed(sheet: &[u8], list: &[u16], output: &mut [u8])
     requires { (length output.old ≡ length list.now) × (Listed.all_below (length sheet.now) list.now ≡ true) }
     ensures { output.new ≡ Place.listed sheet.now list.now }
 {
+    // Kept: an index for output, as in `xor_into` of `shares`.
     for (k, p) in list.iter().enumerate() {
         output[k] = sheet[usize::from(*p)];
     }

@@ -15,6 +15,7 @@ pub fn raise(tables: &Tables, which: Exponent, x: &[u8], z: &mut [u8])
     requires { (length z.old ≡ length x.now) }
     ensures { z.new ≡ map (raised_to which) x.now }
 {
+    // Kept: an index for z, as in `xor_into` of `shares`.
     for (k, byte) in x.iter().enumerate() {
         z[k] = tables.raised(which, *byte);
     }

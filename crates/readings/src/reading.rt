@@ -4,10 +4,10 @@ ghost use Rattle.isw.specs.Place as Place;
 ghost use Rattle.outcomes.specs.Outcome.{outcome, served};
 ghost use Rattle.readings.specs.Calls.{reading_outcome};
 
-use outcomes::{Answer, Order};
+use outcomes::Answer;
 
 // The reading, with room for the sheet, whose refusals 1, 3 and 5 are handed up.
-// Kept: `let .. else` and no `?`, the form that document 01 names for it, in either reading.
+// Kept: `let .. else` and no `?`, the form that document 01 names for it, in either reading; what they share is `read_listed`.
 fn read_with(
     order: usize,
     left: &[u8],
@@ -39,8 +39,7 @@ pub fn read_places(
     ensures { outcome result output.new
         ≡ reading_outcome order left.now right.now tape.now list.now output.old }
 {
-    let d = Order::served(order)?;
     let mut sheet = [0u8; 279];
-    let size = sheets::sheet::place_count(d);
+    let size = sheets::sheet::sheet_size(order);
     read_with(order, left, right, tape, list, &mut sheet[0..size], output)
 }

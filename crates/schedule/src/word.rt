@@ -40,6 +40,7 @@ fn store_word(nk: usize, i: usize, t: &[u8], k: &mut [u8])
         ≡ take (4 * i) k.old
         ++ (xors (word k.old (i - nk)) t.now ++ drop (4 * i + 4) k.old) }
 {
+    // Kept: an index, since the word stands at one place of k and is made from another.
     for (b, byte) in t.iter().enumerate() {
         k[4 * i + b] = k[4 * (i - nk) + b] ^ *byte;
     }

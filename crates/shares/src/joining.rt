@@ -8,7 +8,7 @@ ghost use Rattle.shares.specs.Calls.{join_served, join_outcome};
 use outcomes::{Answer, Count, Order, Refusal, asked};
 
 // The first d parts of bytes, each as long as x, XORed into x; answers with how many bytes that took.
-pub fn xor_parts(d: Order, bytes: &[u8], x: &mut [u8]) -> usize
+pub fn xor_parts(d: usize, bytes: &[u8], x: &mut [u8]) -> usize
     requires { d * length x.old ≤ length bytes.now }
     ensures { (result ≡ d * length x.old)
         × (x.new ≡ xors x.old (joined_string (parts d (length x.old) bytes.now))) }
@@ -17,7 +17,7 @@ pub fn xor_parts(d: Order, bytes: &[u8], x: &mut [u8]) -> usize
     // Kept: the place is counted, since in a splitting it is the count of the tape's bytes, which document 01 has rise with each draw; and
     // chunks_exact() takes no length 0, which x may have.
     let mut at: usize = 0;
-    for i in 0..d.number() {
+    for i in 0..d {
         let e = at + l;
         crate::bytes::xor_into(&bytes[at..e], x);
         at = e;
@@ -30,7 +30,7 @@ fn join_core(d: Order, l: usize, input: &[u8], output: &mut [u8])
     ensures { output.new ≡ joined_string (parts (suc d) l input.now) }
 {
     crate::bytes::put(&input[0..l], output);
-    xor_parts(d, &input[l..], output);
+    xor_parts(d.number(), &input[l..], output);
 }
 
 // The tests of a call behind that of its order, on the lengths of its buffers.

@@ -19,7 +19,7 @@ fn first_share(d: Order, input: &[u8], tape: &[u8], out: &mut [u8]) -> usize
 {
     let l = input.len();
     crate::bytes::put(input, out);
-    crate::joining::xor_parts(d, tape, &mut out[0..l])
+    crate::joining::xor_parts(d.number(), tape, &mut out[0..l])
 }
 
 // Share 0, and behind it the drawn bytes as shares 1 to d. Answers with how many bytes were drawn.
@@ -49,7 +49,7 @@ fn split_answer(d: Order, input: usize, tape: usize, output: usize) -> Answer
     Ok(Count { taken: need })
 }
 
-// The same on a tape of words: at most 8 masks of 32 bytes. Answers with how many words were drawn.
+// `split_core` on a tape of words: at most 8 masks of 32 bytes. Answers with how many words were drawn.
 fn split_on_words(d: Order, input: &[u8], tape: &[u32], output: &mut [u8]) -> usize
     requires { SplitFits d input.now tape.now output.old }
     ensures { (result ≡ words_for (d * length input.now))

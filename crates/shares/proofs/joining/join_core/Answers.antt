@@ -20,7 +20,7 @@ xor_parts-requires c =
     let n : length xs ≡ v.l + v.d * v.l = c.requires.1 ∙ one_more v.d v.l in
     let e : length (take (length xs - v.l) (drop v.l xs)) ≡ v.d * v.l = ap length (part_rest xs v.l) ∙ length-drop v.l xs ∙ omega arith in
     let h : v.d * v.l ≤ length (take (length xs - v.l) (drop v.l xs)) = omega arith in
-    rw l h
+    rw c.number.ensures.0 (rw l h)
 
 pub returns : goal.returns
 returns c =
@@ -31,5 +31,5 @@ returns c =
     let first : c.put.new.out ≡ take v.l xs =
     c.put.ensures ∙ ap (λ (x : List ℕ). front x v.output.now) (part_first xs v.l) ∙ front-all (take v.l xs) v.output.now t in
     joined_first v.d v.l _ xs _ _ first (c.put.auto.out ∙ c.requires.0)
-    (c.xor_parts.ensures.1
+    ((rw c.number.ensures.0 at c.xor_parts.ensures.1)
     ∙ ap (λ (r : List ℕ). xors c.put.new.out (joined_string (parts v.d (length c.put.new.out) r))) (part_rest xs v.l))

@@ -8,8 +8,8 @@ use Rattle.shares.proofs.joining.xor_parts.Given as goal
 
 abbrev pub invariant-loop-i : goal.invariant-loop-i
 invariant-loop-i l =
-    (l.i ≤ l.i-end) × (l.l ≡ length l.initial.x) × (l.at ≡ l.i * l.l) × (l.x ≡ xors l.initial.x (joined_string (parts l.i l.l l.bytes)))
+    (l.i ≤ l.d) × (l.l ≡ length l.initial.x) × (l.at ≡ l.i * l.l) × (l.x ≡ xors l.initial.x (joined_string (parts l.i l.l l.bytes)))
     × (length l.x ≡ length l.initial.x)
 
 abbrev pub decreases-loop-i : goal.decreases-loop-i
-decreases-loop-i l = l.i-end - l.i
+decreases-loop-i l = l.d - l.i
