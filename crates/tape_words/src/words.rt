@@ -13,8 +13,8 @@ pub fn words_for(bytes: usize) -> usize
 
 // The words that hold so many bytes, from the front of the tape over the front of room, the lowest byte of each first. The bytes that the need
 // leaves of the last word come along, and nobody draws them.
-// Kept: each routine calls it in a function of its own, `.._on_words`. One function over the routine's core would state that core's contract once more,
-// for its closure.
+// Kept: each routine calls it in a function of its own, `.._on_words`. One function over the routine's core would state that core's contract once
+// more, for its closure.
 pub fn unpack(need: usize, tape: &[u32], room: &mut [u8])
     requires { (Words.words_for need ≤ length tape.now) × (4 * Words.words_for need ≤ length room.old) }
     ensures { room.new ≡ front (take (4 * Words.words_for need) (bytes_of tape.now)) room.old }
