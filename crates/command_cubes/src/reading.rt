@@ -8,7 +8,7 @@ use text::answers::Table;
 // The first argument that names a place.
 const FIRST: usize = 5;
 
-// The list is read with an output as long.
+// The list is read with an output as long. Kept beside its twin for a product, whose line says why.
 pub fn run<R: Env>(rt: &R, order: usize, shares: &[u8], tape: &[u32]) -> Result<(), Stop> {
     let mut room = place_list::buffer();
     let list = place_list::read(rt, FIRST, &mut room)?;

@@ -9,6 +9,7 @@ use text::answers::Table;
 const FIRST: usize = 6;
 
 // The list is read with an output as long.
+// Kept beside its twin for the cube: what they share is `place_list::read` and `print_call`, and the rest is the call.
 pub fn run<R: Env>(
     rt: &R,
     order: usize,

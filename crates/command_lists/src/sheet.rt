@@ -1,4 +1,5 @@
 // The command `sheet`: all places of a product with their bytes.
+// Kept beside its twin for the cube: a function of a size, a call and a listing is no shorter than the two.
 use command_line::stops::Stop;
 use outcomes::Order;
 use text::answers;

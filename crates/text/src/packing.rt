@@ -7,7 +7,7 @@ ghost use Rattle.text.specs.Packing as Packing;
 pub fn word(a: u8, b: u8, c: u8, d: u8) -> u32
     ensures { result ≡ Packing.word a b c d }
 {
-    a as u32 + b as u32 * 256 + c as u32 * 65536 + d as u32 * 16777216
+    u32::from_le_bytes([a, b, c, d])
 }
 
 // The words of bytes, of which there are four for each.
