@@ -11,8 +11,8 @@ use outcomes::{Answer, Count, Order};
 pub fn prepare(order: usize, key: &[u8], tape: &[u32], output: &mut [u8]) -> Answer
     ensures { outcome result output.new ≡ prepare_outcome order key.now tape.now output.old }
 {
-    let d = Order::served(order)?;
-    lengths::answers::preparation_tested(d, key.len(), tape.len(), output.len())?;
+    lengths::answers::preparation_answer(order, key.len(), tape.len(), output.len())?;
+    let d = Order::new(order);
     let size = sizes::key_words(d, key.len()).unwrap();
     let tables = Tables::new();
     Ok(Count {
@@ -31,8 +31,14 @@ pub fn encrypt_prepared(
     ensures { outcome result output.new
         ≡ encrypt_prepared_outcome order prepared.now input.now tape.now output.old }
 {
-    let d = Order::served(order)?;
-    lengths::answers::prepared_tested(d, prepared.len(), input.len(), tape.len(), output.len())?;
+    lengths::answers::prepared_answer(
+        order,
+        prepared.len(),
+        input.len(),
+        tape.len(),
+        output.len(),
+    )?;
+    let d = Order::new(order);
     let size = sizes::prepared_words(d, prepared.len()).unwrap();
     let tables = Tables::new();
     let taken = rounds::rounds::rounds_core(

@@ -74,8 +74,8 @@ fn call(
     ensures { outcome result output.new
         ≡ single_outcome which order key.now input.now tape.now output.old }
 {
-    let d = Order::served(order)?;
-    lengths::answers::single_tested(d, key.len(), input.len(), tape.len(), output.len())?;
+    lengths::answers::single_answer(order, key.len(), input.len(), tape.len(), output.len())?;
+    let d = Order::new(order);
     let size = sizes::key_words(d, key.len()).unwrap();
     let tables = Tables::new();
     Ok(Count {

@@ -83,8 +83,9 @@ pub fn cube_sheet(order: usize, input: &[u8], tape: &[u32], output: &mut [u8]) -
     ensures { outcome result output.new
         ≡ cube_sheet_outcome order input.now tape.now output.old }
 {
-    let d = Order::served(order)?;
-    shares::answers::input_tested(2, cube_count(d), d, input.len(), tape.len(), output.len())?;
+    let size = cube_size(order);
+    shares::answers::input_answer(2, size, order, input.len(), tape.len(), output.len())?;
+    let d = Order::new(order);
     let tables = Tables::new();
     Ok(Count {
         taken: cube_on_words(&tables, d, input, tape, output),

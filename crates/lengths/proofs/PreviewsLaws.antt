@@ -12,12 +12,12 @@ use Rattle.std.specs.Prelude.{Option, Some, None, IfSome, IfNone, IsSome, Result
 use Rattle.std.specs.Option.{ok_or}
 use Rattle.lengths.specs.declared.key.KeyWords.{KeyWords}
 use Rattle.outcomes.specs.declared.Refusal.{Refusal}
-use Rattle.outcomes.specs.Outcome.{Test, answered, took}
-use Rattle.outcomes.proofs.OutcomeLaws.{Passed, ◌and◌, others_passed, answered_here, answered_next, answered-taken, reaches_le}
+use Rattle.outcomes.specs.Outcome.{Test, answered, took, served}
+use Rattle.outcomes.proofs.OutcomeLaws.{Passed, ◌and◌, answered_here, answered_next, answered-taken, served_bounds, reaches_le}
 use Rattle.tape_words.specs.Words.{words_for}
 use Rattle.cipher.specs.Cipher.{schedule_need}
 use Rattle.lengths.specs.Lengths.{key_words, prepared_length}
-use Rattle.lengths.specs.Previews.{keyed, keyed_served, block_tests, preparation_tests, preparation_served}
+use Rattle.lengths.specs.Previews.{keyed, keyed_served, block_tests, preparation_tests}
 
 -- ---- the order and the key, as the code tests them: nk words were found
 
@@ -51,45 +51,47 @@ module _ (nk : ℕ) (ts : List Test) (k : Count) where
 
 -- for a block, with a key of nk words
 pub record BlockThrough (nk need d x t o : ℕ) : Type 0 where
+  pub served_order : served d ≡ true
+  pub order : d ≤ 8
   pub some : 0 < nk
   pub input : x ≡ suc d * 16
   pub output : o ≡ suc d * 16
   pub drawn : need ≤ t
 
-block_passed_lem : (nk need d x t o : ℕ) → Passed (keyed_served nk (block_tests need d x t o)) → BlockThrough nk need d x t o
-block_passed_lem nk need d x t o (y and i and r and n and p) = record {
+pub block_passed : (nk need d x t o : ℕ) → Passed (keyed d nk (block_tests need d x t o)) → BlockThrough nk need d x t o
+block_passed nk need d x t o (u and y and i and r and n and p) = record {
+  served_order = u;
+  order = (served_bounds d u).1;
   some = ltb-true 0 nk y;
   input = eqb-true x (suc d * 16) i;
   output = eqb-true o (suc d * 16) r;
   drawn = reaches_le t need n;
 }
 
-pub block_passed : (nk need d x t o : ℕ) → Passed (keyed d nk (block_tests need d x t o)) → BlockThrough nk need d x t o
-block_passed nk need d x t o p = block_passed_lem nk need d x t o (others_passed p)
-
-pub block_through : (nk need d x t o : ℕ) (a : Answer) (k c : Count) → a ≡ answered (keyed_served nk (block_tests need d x t o)) k → a ≡ Ok c
+pub block_through : (nk need d x t o : ℕ) (a : Answer) (k c : Count) → a ≡ answered (keyed d nk (block_tests need d x t o)) k → a ≡ Ok c
     → BlockThrough nk need d x t o
-block_through nk need d x t o a k c e f = block_passed_lem nk need d x t o (answered-taken _ k c (sym e ∙ f)).0
+block_through nk need d x t o a k c e f = block_passed nk need d x t o (answered-taken _ k c (sym e ∙ f)).0
 
 -- for a preparation
 pub record PreparationThrough (d k t o : ℕ) : Type 0 where
+  pub served_order : served d ≡ true
+  pub order : d ≤ 8
   pub some : 0 < key_words d k
   pub output : o ≡ prepared_length (key_words d k) d
   pub drawn : words_for (schedule_need (key_words d k) d) ≤ t
 
-preparation_passed_lem : (d k t o : ℕ) → Passed (preparation_served d k t o) → PreparationThrough d k t o
-preparation_passed_lem d k t o (y and r and n and p) = record {
+pub preparation_passed : (d k t o : ℕ) → Passed (preparation_tests d k t o) → PreparationThrough d k t o
+preparation_passed d k t o (u and y and r and n and p) = record {
+  served_order = u;
+  order = (served_bounds d u).1;
   some = ltb-true 0 (key_words d k) y;
   output = eqb-true o (prepared_length (key_words d k) d) r;
   drawn = reaches_le t (words_for (schedule_need (key_words d k) d)) n;
 }
 
-pub preparation_passed : (d k t o : ℕ) → Passed (preparation_tests d k t o) → PreparationThrough d k t o
-preparation_passed d k t o p = preparation_passed_lem d k t o (others_passed p)
-
-pub preparation_through : (d k t o : ℕ) (a : Answer) (n c : Count) → a ≡ answered (preparation_served d k t o) n → a ≡ Ok c
+pub preparation_through : (d k t o : ℕ) (a : Answer) (n c : Count) → a ≡ answered (preparation_tests d k t o) n → a ≡ Ok c
     → PreparationThrough d k t o
-preparation_through d k t o a n c e f = preparation_passed_lem d k t o (answered-taken _ n c (sym e ∙ f)).0
+preparation_through d k t o a n c e f = preparation_passed d k t o (answered-taken _ n c (sym e ∙ f)).0
 
 -- ---- the answer to what was worked out for the key that was found: b bytes, w words
 

@@ -15,7 +15,7 @@ use Rattle.outcomes.specs.declared.Count.{Count}
 use Rattle.outcomes.specs.Outcome.{Answer}
 use Rattle.std.specs.Prelude.{Ok}
 use Rattle.outcomes.specs.Outcome.{answered, served}
-use Rattle.outcomes.proofs.OutcomeLaws.{Passed, ◌and◌, others_passed, answered-behind, answered-taken, reaches_le}
+use Rattle.outcomes.proofs.OutcomeLaws.{Passed, ◌and◌, answered-behind, answered-taken, served_bounds, reaches_le}
 use Rattle.tape_words.specs.Words.{bytes_of, words_for}
 use Rattle.tape_words.proofs.WordsLaws.{reach_words}
 use Rattle.tape_words.proofs.FrontLaws.{unpack_fits, made_on_words}
@@ -28,12 +28,7 @@ two_fit_lengths d a b e =
     let h = and_true (eqb a (suc d)) (eqb b (suc d)) e in
     (eqb-true a (suc d) h.0, eqb-true b (suc d) h.1)
 
--- the room that was found
-pub factors-room : {room' : ℕ} (room d a b t o : ℕ) (k : Count) (q : Answer) → room' ≡ room
-    → q ≡ answered (factor_served room' d a b t o) k → q ≡ answered (factor_served room d a b t o) k
-factors-room room d a b t o k q same e = e ∙ ap (λ (n : ℕ). answered (factor_served n d a b t o) k) same
-
--- of all tests: the room counts only where the order is served
+-- the room counts only where the order is served
 pub factors_answered : (room' room d a b t o : ℕ) (k : Count) (q : Answer) → (served d ≡ true → room' ≡ room)
     → q ≡ answered (factor_tests room' d a b t o) k → q ≡ answered (factor_tests room d a b t o) k
 factors_answered room' room d a b t o k q same e =
@@ -41,22 +36,20 @@ factors_answered room' room d a b t o k q same e =
 
 -- a call that is let through
 pub record FactorsThrough (room d a b t o : ℕ) : Type 0 where
+  pub order : d ≤ 8
   pub left : a ≡ suc d
   pub right : b ≡ suc d
   pub output : o ≡ room
   pub drawn : words_for (product_need d) ≤ t
 
-factors_passed_lem : (room d a b t o : ℕ) → Passed (factor_served room d a b t o) → FactorsThrough room d a b t o
-factors_passed_lem room d a b t o (i and r and n and p) =
-    let f = two_fit_lengths d a b i in
-    record { left = f.0; right = f.1; output = eqb-true o room r; drawn = reaches_le t _ n }
-
 pub factors_passed : (room d a b t o : ℕ) → Passed (factor_tests room d a b t o) → FactorsThrough room d a b t o
-factors_passed room d a b t o p = factors_passed_lem room d a b t o (others_passed p)
+factors_passed room d a b t o (u and i and r and n and p) =
+    let f = two_fit_lengths d a b i in
+    record { order = (served_bounds d u).1; left = f.0; right = f.1; output = eqb-true o room r; drawn = reaches_le t _ n }
 
-pub factors_through : (room d a b t o : ℕ) (q : Answer) (k c : Count) → q ≡ answered (factor_served room d a b t o) k → q ≡ Ok c
+pub factors_through : (room d a b t o : ℕ) (q : Answer) (k c : Count) → q ≡ answered (factor_tests room d a b t o) k → q ≡ Ok c
     → FactorsThrough room d a b t o
-factors_through room d a b t o q k c e f = factors_passed_lem room d a b t o (answered-taken _ k c (sym e ∙ f)).0
+factors_through room d a b t o q k c e f = factors_passed room d a b t o (answered-taken _ k c (sym e ∙ f)).0
 
 -- ---- a call on two factors, on a tape of words: what is unpacked for it
 

@@ -147,15 +147,15 @@ pub fn masked_product(
     ensures { outcome result output.new
         ≡ product_outcome order left.now right.now tape.now output.old }
 {
-    let d = Order::served(order)?;
-    factors_tested(
-        d.shares(),
-        d,
+    factors_answer(
+        outcomes::asked::share_count(order),
+        order,
         left.len(),
         right.len(),
         tape.len(),
         output.len(),
     )?;
+    let d = Order::new(order);
     let tables = Tables::new();
     Ok(Count {
         taken: product_on_words(&tables, d, left, right, tape, output),

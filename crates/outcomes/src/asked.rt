@@ -1,6 +1,8 @@
 // What the tests of a call ask, on numbers alone. Each routine's own tests stand beside it, in the order of document 01's table.
-ghost use Rattle.std.specs.Prelude.{◌≡◌, ◌≤◌};
+ghost use Rattle.std.specs.Prelude.{◌≡◌, true, suc, ◌≤◌};
 ghost use Rattle.outcomes.specs.Outcome;
+
+use crate::Order;
 
 // Whether the order is one of 1 to 8. It is tested on the raw number, before order + 1 is formed.
 pub fn served(order: usize) -> bool
@@ -10,6 +12,16 @@ pub fn served(order: usize) -> bool
         return order < 9;
     }
     false
+}
+
+// How many shares a byte has at that order, and 0 where the order is not served.
+pub fn share_count(order: usize) -> usize
+    ensures { (Outcome.served order ≡ true → result ≡ suc order) × (result ≤ 9) }
+{
+    match Order::served(order) {
+        Ok(d) => d.shares(),
+        Err(_) => 0,
+    }
 }
 
 // Which of the listed lengths one of n shares has, in a string of so many bytes, if any.

@@ -59,8 +59,8 @@ pub fn refresh(order: usize, input: &[u8], tape: &[u32], output: &mut [u8]) -> A
     ensures { outcome result output.new
         ≡ refresh_outcome order input.now tape.now output.old }
 {
-    let d = Order::served(order)?;
-    shares::answers::byte_tested(1, d, input.len(), tape.len(), output.len())?;
+    shares::answers::byte_answer(1, order, input.len(), tape.len(), output.len())?;
+    let d = Order::new(order);
     shares::bytes::put(input, output);
     Ok(Count {
         taken: refresh_on_words(d, tape, output),

@@ -104,8 +104,8 @@ pub fn masked_box(order: usize, input: &[u8], tape: &[u32], output: &mut [u8]) -
     ensures { outcome result output.new
         ≡ box_outcome order input.now tape.now output.old }
 {
-    let d = Order::served(order)?;
-    shares::answers::byte_tested(6, d, input.len(), tape.len(), output.len())?;
+    shares::answers::byte_answer(6, order, input.len(), tape.len(), output.len())?;
+    let d = Order::new(order);
     shares::bytes::put(input, output);
     let tables = Tables::new();
     Ok(Count {

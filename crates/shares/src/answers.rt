@@ -1,4 +1,4 @@
-// The tests of a call on the shares of one byte, behind that of its order. Document 01, "Turned-down calls", decides.
+// The tests of a call on the shares of one byte: those behind that of its order, and all. Document 01, "Turned-down calls", decides.
 ghost use Rattle.std.specs.Prelude.{◌≡◌, suc, ◌*◌, ◌≤◌};
 ghost use Rattle.xor.specs.Pairs.{pair_count};
 ghost use Rattle.outcomes.specs.Outcome.{answered, took};

@@ -3,7 +3,7 @@ ghost use Rattle.std.specs.Prelude.{◌≡◌, suc, ◌*◌, ◌≤◌, length};
 ghost use Rattle.xor.specs.Sums.{xors};
 ghost use Rattle.outcomes.specs.Outcome.{outcome, answered, took};
 ghost use Rattle.shares.specs.Strings.{joined_string, parts};
-ghost use Rattle.shares.specs.Calls.{join_served, join_outcome};
+ghost use Rattle.shares.specs.Calls.{join_served, join_tests, join_outcome};
 
 use outcomes::{Answer, Count, Order, Refusal, asked};
 
@@ -34,7 +34,7 @@ fn join_core(d: Order, l: usize, input: &[u8], output: &mut [u8])
 }
 
 // The tests of a call behind that of its order, on the lengths of its buffers.
-fn join_answer(d: Order, input: usize, output: usize) -> Answer
+fn join_tested(d: Order, input: usize, output: usize) -> Answer
     ensures { result ≡ answered (join_served d input output) (took 0) }
 {
     let l = asked::share_length(d.shares(), input).ok_or(Refusal::Input)?;
@@ -44,12 +44,20 @@ fn join_answer(d: Order, input: usize, output: usize) -> Answer
     Ok(Count { taken: 0 })
 }
 
+// The tests of a call, from the raw order, which is tested first.
+fn join_answer(order: usize, input: usize, output: usize) -> Answer
+    ensures { result ≡ answered (join_tests order input output) (took 0) }
+{
+    let d = Order::served(order)?;
+    join_tested(d, input, output)
+}
+
 // The string that the shares join to. It draws nothing.
 pub fn join(order: usize, input: &[u8], output: &mut [u8]) -> Answer
     ensures { outcome result output.new ≡ join_outcome order input.now output.old }
 {
-    let d = Order::served(order)?;
-    join_answer(d, input.len(), output.len())?;
+    join_answer(order, input.len(), output.len())?;
+    let d = Order::new(order);
     join_core(d, output.len(), input, output);
     Ok(Count { taken: 0 })
 }

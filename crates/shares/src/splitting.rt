@@ -6,7 +6,7 @@ ghost use Rattle.outcomes.specs.Outcome.{outcome, answered, took, share_length};
 ghost use Rattle.tape_words.specs.Words.{bytes_of, words_for};
 ghost use Rattle.shares.specs.Strings.{joined_string, parts, laid, split, split_need};
 ghost use Rattle.shares.specs.Fits.{SplitFits};
-ghost use Rattle.shares.specs.Calls.{split_served, split_outcome};
+ghost use Rattle.shares.specs.Calls.{split_served, split_tests, split_outcome};
 
 use outcomes::{Answer, Count, Order, Refusal, asked};
 
@@ -35,7 +35,7 @@ fn split_core(d: Order, input: &[u8], tape: &[u8], output: &mut [u8]) -> usize
 }
 
 // The tests of a call behind that of its order, on the lengths of its buffers.
-fn split_answer(d: Order, input: usize, tape: usize, output: usize) -> Answer
+fn split_tested(d: Order, input: usize, tape: usize, output: usize) -> Answer
     ensures { result ≡ answered (split_served d input tape output) (took (words_for (split_need d (share_length 1 input)))) }
 {
     let l = asked::share_length(1, input).ok_or(Refusal::Input)?;
@@ -47,6 +47,14 @@ fn split_answer(d: Order, input: usize, tape: usize, output: usize) -> Answer
         return Err(Refusal::Tape);
     }
     Ok(Count { taken: need })
+}
+
+// The tests of a call, from the raw order, which is tested first.
+fn split_answer(order: usize, input: usize, tape: usize, output: usize) -> Answer
+    ensures { result ≡ answered (split_tests order input tape output) (took (words_for (split_need order (share_length 1 input)))) }
+{
+    let d = Order::served(order)?;
+    split_tested(d, input, tape, output)
 }
 
 // `split_core` on a tape of words: at most 8 masks of 32 bytes. Answers with how many words were drawn.
@@ -64,8 +72,8 @@ pub fn split(order: usize, input: &[u8], tape: &[u32], output: &mut [u8]) -> Ans
     ensures { outcome result output.new
         ≡ split_outcome order input.now tape.now output.old }
 {
-    let d = Order::served(order)?;
-    split_answer(d, input.len(), tape.len(), output.len())?;
+    split_answer(order, input.len(), tape.len(), output.len())?;
+    let d = Order::new(order);
     Ok(Count {
         taken: split_on_words(d, input, tape, output),
     })

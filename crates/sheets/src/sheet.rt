@@ -148,15 +148,15 @@ pub fn product_sheet(
     ensures { outcome result output.new
         ≡ sheet_outcome order left.now right.now tape.now output.old }
 {
-    let d = Order::served(order)?;
-    masking::product::factors_tested(
-        place_count(d),
-        d,
+    masking::product::factors_answer(
+        sheet_size(order),
+        order,
         left.len(),
         right.len(),
         tape.len(),
         output.len(),
     )?;
+    let d = Order::new(order);
     let tables = Tables::new();
     Ok(Count {
         taken: sheet_on_words(&tables, d, left, right, tape, output),

@@ -1,34 +1,32 @@
 -- `sheets::sheet::product_sheet` meets its contract. Assumes nothing.
-use mathlib.Core.Path.{ap, sym, ◌∙◌}
+use mathlib.Core.Path.{ap}
 use Rattle.outcomes.specs.Outcome.{took}
-use Rattle.outcomes.proofs.OutcomeLaws.{order_served-ok, settled-unserved, settled-past, settled-handed, settled-done}
+use Rattle.outcomes.proofs.OutcomeLaws.{settled-handed, settled-done}
 use Rattle.tape_words.proofs.WordsLaws.{words_reach}
-use Rattle.masking.proofs.CallsLaws.{factors-room, factors_through}
+use Rattle.masking.proofs.CallsLaws.{factors_answered, factors_through}
 use Rattle.sheets.specs.Calls.{sheet_outcome}
 use Rattle.sheets.proofs.sheet.product_sheet.Goals as goal
 
-pub returns-in_err-d : goal.returns-in_err-d
+pub returns-in_err-factors_answer : goal.returns-in_err-factors_answer
 unfolding sheet_outcome
-returns-in_err-d c = settled-unserved _ _ _ _ _ _ (sym c.served.ensures ∙ c.in_err-d.was) _ c.from_residual.ensures.1
+returns-in_err-factors_answer c =
+    let e = factors_answered _ _ c.args.order _ _ _ _ _ _ c.sheet_size.ensures.0 c.factors_answer.ensures in
+    settled-handed _ _ _ _ _ e _ c.in_err-factors_answer.was _ c.from_residual.ensures.1
 
-pub returns-in_err-factors_tested : goal.returns-in_err-factors_tested
-unfolding sheet_outcome
-returns-in_err-factors_tested c =
-    let n = order_served-ok _ _ (sym c.served.ensures ∙ c.in_ok-d.was) in
-    let e = factors-room _ _ _ _ _ _ _ _ c.place_count.ensures.0 c.factors_tested.ensures in
-    let f = settled-handed _ _ _ _ _ e _ c.in_err-factors_tested.was _ c.from_residual-in_err-factors_tested.ensures.1 in
-    rw n.0 (f ∙ sym (settled-past _ _ _ _ _ n.1))
+pub new-d-requires : goal.new-d-requires
+new-d-requires c =
+    let e = factors_answered _ _ c.args.order _ _ _ _ _ _ c.sheet_size.ensures.0 c.factors_answer.ensures in
+    (factors_through _ _ _ _ _ _ _ _ _ e c.in_ok-factors_answer.was).order
 
 pub sheet_on_words-requires : goal.sheet_on_words-requires
 sheet_on_words-requires c =
-    let e = factors-room _ _ _ _ _ _ _ _ c.place_count.ensures.0 c.factors_tested.ensures in
-    let h = factors_through _ _ _ _ _ _ _ _ _ e c.in_ok-factors_tested.was in
-    (record { left = h.left; right = h.right; drawn = words_reach _ c.args.tape.now h.drawn }, h.output)
+    let e = factors_answered _ _ c.args.order _ _ _ _ _ _ c.sheet_size.ensures.0 c.factors_answer.ensures in
+    let h = factors_through _ _ _ _ _ _ _ _ _ e c.in_ok-factors_answer.was in
+    rw c.new-d.ensures (record { left = h.left; right = h.right; drawn = words_reach _ c.args.tape.now h.drawn }, h.output)
 
 pub returns : goal.returns
 unfolding sheet_outcome
 returns c =
-    let n = order_served-ok _ _ (sym c.served.ensures ∙ c.in_ok-d.was) in
-    let e = factors-room _ _ _ _ _ _ _ _ c.place_count.ensures.0 c.factors_tested.ensures in
-    let f = settled-done _ _ _ _ _ e _ _ _ c.in_ok-factors_tested.was (ap took c.sheet_on_words.ensures.0) c.sheet_on_words.ensures.1 in
-    rw n.0 (f ∙ sym (settled-past _ _ _ _ _ n.1))
+    let e = factors_answered _ _ c.args.order _ _ _ _ _ _ c.sheet_size.ensures.0 c.factors_answer.ensures in
+    let m = rw c.new-d.ensures at c.sheet_on_words.ensures in
+    settled-done _ _ _ _ _ e _ _ _ c.in_ok-factors_answer.was (ap took m.0) m.1
