@@ -20,6 +20,15 @@ unfolding mix_of
 mix_some Forward d = omega arith
 mix_some Inverse d = omega arith
 
+-- as the code counts them, by the direction
+pub mix_forward : (w : Direction) (d : ℕ) → w ≡ Forward → (d + 1) * 81 ≡ mix_of w d
+unfolding mix_of
+mix_forward w d e = let q : (d + 1) * 81 ≡ suc d * 81 = omega arith in q ∙ ap (λ (v : Direction). mix_of v d) (sym e)
+
+pub mix_inverse : (w : Direction) (d : ℕ) → w ≡ Inverse → (d + 1) * 113 ≡ mix_of w d
+unfolding mix_of
+mix_inverse w d e = let q : (d + 1) * 113 ≡ suc d * 113 = omega arith in q ∙ ap (λ (v : Direction). mix_of v d) (sym e)
+
 -- ---- S-boxes
 
 -- k of n boxes, and one more
@@ -85,6 +94,10 @@ pub round_of_parts : (w : Direction) (d : ℕ) → round_of w d ≡ subs_count d
 unfolding round_of round_count inv_round_count mix_of
 round_of_parts Forward d = refl
 round_of_parts Inverse d = omega arith
+
+pub last_round-parts : (d : ℕ) → subs_count d by_rows + string_count 16 d ≡ last_round_count d
+unfolding last_round_count
+last_round-parts d = refl
 
 rounds_suc : (w : Direction) (l d : ℕ) → rounds_of w (suc l) d ≡ round_of w d + rounds_of w l d
 unfolding rounds_of round_of rounds_count inv_rounds_count

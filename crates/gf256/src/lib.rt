@@ -10,7 +10,7 @@ mod product;
 mod tables;
 
 pub use product::{double, times};
-pub use tables::Tables;
+pub use tables::{Antilogs, Logs, Tables};
 
 // Which way AES runs: by the cipher of FIPS 197, or by its inverse cipher.
 // Kept: an enum and a match, where closures could be handed down. The definitions go by its two cases (`affine_of`, `box_of`, `round_of`), so a

@@ -10,9 +10,9 @@ ghost use Rattle.gf256.specs.Tables.{LogTable, AntilogTable};
 
 use crate::{Exponent, powers};
 
-type Logs = [u16; 256];
+pub type Logs = [u16; 256];
 
-type Antilogs = [u8; 1021];
+pub type Antilogs = [u8; 1021];
 
 // For a byte that is not 00, the k below 255 at which 03 to the k is that byte. For 00 it is 510, past every sum of two others.
 const LOGS: Logs = [
@@ -100,7 +100,7 @@ const ANTILOGS: Antilogs = [
 ];
 
 // The two tables. What they hold is a fact of the type: every place that makes one proves it.
-#[derive(Drop)]
+#[derive(Clone, Copy)]
 pub struct Tables {
     logs: Logs,
     antilogs: Antilogs,

@@ -2,7 +2,7 @@
 use mathlib.Core.Path.{◌≡◌, refl, sym, ap, ◌∙◌, subst}
 use mathlib.Core.Bool.{true}
 use mathlib.Core.List.{List}
-use Prim.Native.Nat.{ℕ, suc, ◌*◌, ◌≤◌, ◌<◌}
+use Prim.Native.Nat.{ℕ, zero, suc, ◌*◌, ◌≤◌, ◌<◌}
 use native.Mathlib.Omega.{arith}
 use borrow.Author.Tests.{eqb-true, ltb-true, lt-ltb, le-ltb}
 use Rattle.outcomes.specs.declared.Refusal.TheVariants.{Key}
@@ -20,6 +20,10 @@ use Rattle.lengths.specs.Lengths.{key_words, prepared_length}
 use Rattle.lengths.specs.Previews.{keyed, keyed_served, block_tests, preparation_tests}
 
 -- ---- the order and the key, as the code tests them: nk words were found
+
+pub some_words : (n nk : ℕ) → n ≡ nk → (n ≡ 0 → ⊥) → 0 < nk
+some_words zero nk e h = absurd (h (omega arith))
+some_words (suc n) nk e h = omega arith
 
 -- a size that was looked up, behind `ok_or(..)?`
 pub size-known : (o : Option KeyWords) (n : ℕ) (k : KeyWords) → IfSome o (λ k. k.nk ≡ n) → o ≡ Some k → k.nk ≡ n

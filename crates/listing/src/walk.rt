@@ -9,9 +9,9 @@ pub enum Part {
 }
 
 // The number of the next S-box, and where it begins: its first byte on the tape, or its first place.
-#[derive(Drop)]
+#[derive(Clone, Copy)]
 pub struct Walk {
-    number: usize,
+    pub number: usize,
     pub at: usize,
 }
 

@@ -2,7 +2,7 @@
 use mathlib.Core.Path.{◌≡◌, refl, sym, ap, ◌∙◌, subst}
 use mathlib.Core.Bool.{cond}
 use mathlib.Core.List.{List, [], ◌∷◌}
-use Prim.Native.Nat.{ℕ, ◌+◌, ◌*◌, ◌≤◌, ◌<◌}
+use Prim.Native.Nat.{ℕ, suc, ◌+◌, ◌*◌, ◌-◌, ◌≤◌, ◌<◌}
 use native.Mathlib.Numerals.{add-one}
 use native.Mathlib.Omega.{arith}
 use lib.ListN.{length, get_or, drop, drop_of_length-le}
@@ -39,6 +39,25 @@ module _ (ls : List ℕ) (n b k : ℕ) where
     pub listed_length-passed : (b ≡ n * get_or ls k 0 → ⊥) → listed_length (drop k ls) n b ≡ listed_length (drop (k + 1) ls) n b
     unfolding listed_length
     listed_length-passed h = rw (add-one k, drop-cons ls k 0 within) (simp (ne_eqb b (n * get_or ls k 0) h))
+
+-- the list looked through from its end: before its entry k - 1 is looked at, what its rest from k on gives
+module _ (ls : List ℕ) (n b k : ℕ) where
+  pub one_of_end : length ls ≤ k → 0 ≡ one_of (drop k ls) n b
+  unfolding one_of
+  one_of_end h = rw (drop_of_length-le ls h) refl
+
+  module _ (some : 0 < k) (within : k ≤ length ls) where
+    entry : drop (k - 1) ls ≡ get_or ls (k - 1) 0 ∷ drop k ls
+    entry =
+        let h : k - 1 < length ls = omega arith in
+        let e : suc (k - 1) ≡ k = omega arith in
+        drop-cons ls (k - 1) 0 h ∙ ap (λ (m : ℕ). get_or ls (k - 1) 0 ∷ drop m ls) e
+
+    pub one_of_found : b ≡ n * get_or ls (k - 1) 0 → get_or ls (k - 1) 0 ≡ one_of (drop (k - 1) ls) n b
+    one_of_found e = rw entry (sym (one_of_here (get_or ls (k - 1) 0) (drop k ls) n b e))
+
+    pub one_of-passed : (f : ℕ) → (b ≡ n * get_or ls (k - 1) 0 → ⊥) → f ≡ one_of (drop k ls) n b → f ≡ one_of (drop (k - 1) ls) n b
+    one_of-passed f h e = e ∙ rw entry (sym (one_of_next (get_or ls (k - 1) 0) (drop k ls) n b h))
 
 -- what was found is the length by number
 pub listed_length-some : (ls : List ℕ) (n b k : ℕ) → listed_length ls n b ≡ Some k → one_of ls n b ≡ k

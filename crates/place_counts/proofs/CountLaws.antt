@@ -9,6 +9,12 @@ use Rattle.probing.proofs.PlaceCounts.{box_count_is}
 pub box_count_made : (d : ℕ) → 3 * suc d * (7 * d + 10) ≡ box_count d
 box_count_made d = omega (arith, box_count_is d)
 
+pub box_count-fits : (d : ℕ) → d ≤ 8 → 3 * (d + 1) * (7 * d + 10) ≤ 1782
+box_count-fits d h =
+    let a : 3 * (d + 1) ≤ 27 = omega arith in
+    let b : 7 * d + 10 ≤ 66 = omega arith in
+    mul-le-mul a b
+
 pub box_count_bound : (d : ℕ) → d ≤ 8 → box_count d ≤ 1782
 box_count_bound d h =
     let a : 3 * (d + 1) ≤ 27 = omega arith in
@@ -24,6 +30,12 @@ box_count_some d = omega arith
 pub string_count_made : (m d : ℕ) → suc d * (m + 1) ≡ string_count m d
 unfolding string_count
 string_count_made m d = omega arith
+
+pub string_count-fits : (m d : ℕ) → d ≤ 8 → m ≤ 32 → (d + 1) * (m + 1) ≤ 297
+string_count-fits m d h g =
+    let a : d + 1 ≤ 9 = omega arith in
+    let b : m + 1 ≤ 33 = omega arith in
+    mul-le-mul a b
 
 pub string_count_some : (m d : ℕ) → 1 ≤ string_count m d
 unfolding string_count

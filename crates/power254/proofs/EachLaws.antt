@@ -43,7 +43,7 @@ module _ (f : ℕ → ℕ) where
 abbrev pub numbers : List ℕ
 numbers = 0 ∷ 1 ∷ 2 ∷ 3 ∷ 4 ∷ 5 ∷ 6 ∷ 7 ∷ 8 ∷ []
 
-numbered : (k : ℕ) → k < 9 → get_or numbers k 0 ≡ k
+pub numbered : (k : ℕ) → k < 9 → get_or numbers k 0 ≡ k
 numbered k h = ap (λ (l : List ℕ). get_or l k 0) all ∙ getD_tab (λ q. q) 9 k 0 h
   where
     all : numbers ≡ tab (λ q. q) 9

@@ -41,6 +41,12 @@ round-made w d m nr i r keys tape s s' er e =
 
 -- ---- the whole
 
+-- so many bytes can be counted
+pub rounds_bound : (nr d : ℕ) → nr ≤ 14 → d ≤ 8 → nr * round_need d ≤ 14 * (16 * box_most)
+rounds_bound nr d h g =
+    let n : round_need d ≤ 16 * box_most = omega (arith, round_need_is d, box_need_bound d g) in
+    mul-le-mul h n
+
 -- the keys' length, as the code counts it
 pub keys_length : (nk d n : ℕ) → n ≡ suc d * (16 * suc (rounds nk)) → n ≡ suc d * (16 * (nk + 6 + 1))
 unfolding rounds

@@ -33,6 +33,12 @@ use Rattle.buffers.proofs.SecondLaws.{share_long, word-part, word-long}
 
 -- ---- Rcon
 
+pub doubled_again : (i r : ℕ) → 1 ≤ i → r ≡ power 2 (i - 1) → doubled r ≡ power 2 (i + 1 - 1)
+unfolding power
+doubled_again i r h e =
+    let q : i + 1 - 1 ≡ suc (i - 1) = omega arith in
+    ap doubled e ∙ sym (ap (power 2) q ∙ times_two (power 2 (i - 1)))
+
 doubled_on : (m i n : ℕ) → fold (λ a x. doubled a) (power 2 m) (range_with_len i n) ≡ power 2 (m + n)
 unfolding power
 doubled_on m i zero = ap (power 2) (sym (add-zero m))

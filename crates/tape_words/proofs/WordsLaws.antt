@@ -2,10 +2,12 @@
 use Rattle.std.proofs.Common.{◌≡◌, ℕ, zero, suc, ◌+◌, ◌*◌, ◌-◌, ◌/◌, ◌%◌, ◌≤◌, ◌<◌, List, [], ◌∷◌, ◌++◌, length, take, drop, get_or}
 use Rattle.std.proofs.Common.{refl, sym, ap, ◌∙◌, append_assoc, length-append, arith}
 use Rattle.std.proofs.Math.Seq.{take-nil, drop-nil, take_at, drop_at, drop-drop, length-take-le}
+use lib.ListN.{get_or-append}
 use Rattle.std.proofs.lemmas.List.{take_more}
 use Rattle.std.specs.Int.{to_le_bytes}
 use Rattle.std.specs.Int.Width.{w32}
 use borrow.Rule.Slice.PartMut.{put_mid}
+use Rattle.xor.specs.Lists.{at}
 use Rattle.xor.specs.Writes.{front}
 use Rattle.xor.proofs.WriteLaws.{part_rest, length-part_rest}
 use Rattle.tape_words.specs.Words.{word_bytes, bytes_of, words_for}
@@ -58,6 +60,19 @@ bytes-part k ws = bytes_rest k ws ∙ sym (part_rest (bytes_of ws) (4 * k))
 
 pub length-bytes_rest : (k : ℕ) (ws : List ℕ) → length (bytes_of (take (length ws - k) (drop k ws))) ≡ 4 * (length ws - k)
 length-bytes_rest k ws = length-bytes _ ∙ ap (◌*◌ 4) (length-part_rest ws k)
+
+-- ---- entries
+
+-- byte j of word k
+pub bytes-at : (ws : List ℕ) (k j : ℕ) → k < length ws → j < 4 → at (bytes_of ws) (4 * k + j) ≡ at (word_bytes (at ws k)) j
+unfolding at bytes_of word_bytes
+bytes-at [] k j h l = absurd (omega arith)
+bytes-at (v ∷ ws) zero j h l =
+    let e : 4 * 0 + j ≡ j = omega arith in
+    ap (λ (i : ℕ). get_or (bytes_of (v ∷ ws)) i 0) e ∙ get_or-append (word_bytes v) (bytes_of ws) 0 j l
+bytes-at (v ∷ ws) (suc k) j h l =
+    let e : 4 * suc k + j ≡ suc (suc (suc (suc (4 * k + j)))) = omega arith in
+    ap (λ (i : ℕ). get_or (bytes_of (v ∷ ws)) i 0) e ∙ bytes-at ws k j (omega arith) l
 
 -- ---- unpacking
 
