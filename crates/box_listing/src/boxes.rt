@@ -22,7 +22,7 @@ fn forward(lines: &mut Lines, d: Order)
     );
     let names = AffineNames {
         input: b"p_",
-        constant: b"^63",
+        constant: b")^63",
         output: b"o_",
     };
     groups::affine(lines, names, d.shares());
@@ -39,7 +39,7 @@ fn inverse(lines: &mut Lines, d: Order)
     );
     let names = AffineNames {
         input: b"i_",
-        constant: b"^05",
+        constant: b")^05",
         output: b"x_",
     };
     groups::affine(lines, names, d.shares());

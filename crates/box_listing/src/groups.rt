@@ -4,7 +4,7 @@ ghost use Rattle.listing.specs.Most.{most};
 
 use listing::lines::Lines;
 
-// How the places of an affine map are named: its input, its constant, and its output.
+// How the places of an affine map are named: its input, its constant behind the bracket of the linear part, and its output.
 #[derive(Clone, Copy)]
 pub struct AffineNames<'a> {
     pub input: &'a [u8],
@@ -30,22 +30,19 @@ pub fn powers(lines: &mut Lines, of: &[u8], n: usize, m: usize)
     lines.each(n * m, |t| print_power(of, t / m, t % m));
 }
 
-// `L(p_0)`, the linear part of a map of share `p_0`.
-fn print_linear_part(of: &[u8], i: usize) {
+// `L(p_0`, the linear part of a map of share `p_0`, and what ends it.
+fn print_linear_part(of: &[u8], i: usize, end: &[u8]) {
     text::print(b"L(");
     text::print_with(of, i);
-    text::print(b")");
+    text::print(end);
 }
 
 // The name of place k of the four of share i: itself, the linear part, the map, and share i of the output.
 fn print_affine(names: AffineNames, i: usize, k: usize) {
     match k {
         0 => text::print_with(names.input, i),
-        1 => print_linear_part(names.input, i),
-        2 => {
-            print_linear_part(names.input, i);
-            text::print(names.constant)
-        }
+        1 => print_linear_part(names.input, i, b")"),
+        2 => print_linear_part(names.input, i, names.constant),
         _ => text::print_with(names.output, i),
     }
 }

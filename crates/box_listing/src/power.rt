@@ -5,6 +5,7 @@ ghost use Rattle.probing.specs.BoxPlaces.{times_count, first_count, second_count
 
 use crate::groups;
 use command_cubes::names;
+use command_cubes::names::Of;
 use listing::lines::Lines;
 use listing::places;
 use outcomes::Order;
@@ -44,7 +45,7 @@ fn second_stage(lines: &mut Lines, d: Order)
     let n = d.shares();
     text::print(b"q = y to the 4; w = q refreshed\n");
     groups::powers(lines, b"y_", n, 3);
-    names::pairs(lines, n, |i| text::print_with(b"q_", i));
+    names::pairs(lines, Of::Fourths, n);
     times(
         lines,
         d,

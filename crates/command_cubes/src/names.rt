@@ -9,10 +9,24 @@ use listing::lines;
 use listing::lines::Lines;
 use outcomes::Order;
 
+// What is refreshed: the squares of the cube, or `q_0` and so on, which a listing of the S-box names.
+#[derive(Clone, Copy)]
+pub enum Of {
+    Squares,
+    Fourths,
+}
+
 // `x_0*x_0`
 fn print_square(i: usize) {
     text::print_with(b"x_", i);
     text::print_with(b"*x_", i);
+}
+
+fn print_share(of: Of, i: usize) {
+    match of {
+        Of::Squares => print_square(i),
+        Of::Fourths => text::print_with(b"q_", i),
+    }
 }
 
 // `t(0,1)`, which both shares take in: so the smaller number stands first, whichever of the two is named.
@@ -24,12 +38,11 @@ fn print_draw(i: usize, j: usize) {
     }
 }
 
-// Share i, as `share` prints it, and the first m draws that it takes in, as `^t(0,1)`.
-fn print_sum<F: Fn(usize)>(share: &F, i: usize, m: usize)
-    requires taken { m ≤ 8 }
-    requires named { F.IsAlwaysCallable share.now }
+// Share i and the first m draws that it takes in, as `^t(0,1)`.
+fn print_sum(of: Of, i: usize, m: usize)
+    requires { m ≤ 8 }
 {
-    share(i);
+    print_share(of, i);
     for t in 0..m {
         text::print(b"^");
         print_draw(i, masking::steps::skip(i, t));
@@ -38,25 +51,22 @@ fn print_sum<F: Fn(usize)>(share: &F, i: usize, m: usize)
 
 // The name of place k of the three of a pair i < j. By then share i has taken in j draws, those with the shares up to j, and share j those with the
 // shares up to i.
-fn print_of_pair<F: Fn(usize)>(share: &F, i: usize, j: usize, k: usize)
-    requires pair { (i < j) × (j ≤ 8) }
-    requires named { F.IsAlwaysCallable share.now }
+fn print_of_pair(of: Of, i: usize, j: usize, k: usize)
+    requires { (i < j) × (j ≤ 8) }
 {
     match k {
         0 => print_draw(i, j),
-        1 => print_sum(share, i, j),
-        _ => print_sum(share, j, i + 1),
+        1 => print_sum(of, i, j),
+        _ => print_sum(of, j, i + 1),
     }
 }
 
-// The places of a refresh of n shares, whose names `share` prints.
-pub fn pairs<F: Fn(usize)>(lines: &mut Lines, n: usize, share: F)
-    requires shares { n ≤ 9 }
-    requires room { lines.old.next + 3 * pair_count n ≤ most }
-    requires named { F.IsAlwaysCallable share }
+// The places of a refresh of n shares.
+pub fn pairs(lines: &mut Lines, of: Of, n: usize)
+    requires { (n ≤ 9) × (lines.old.next + 3 * pair_count n ≤ most) }
     ensures { lines.new.next ≡ lines.old.next + 3 * pair_count n }
 {
-    lines.each_pair(n, 3, |i, j, k| print_of_pair(&share, i, j, k));
+    lines.each_pair(n, 3, |i, j, k| print_of_pair(of, i, j, k));
 }
 
 // All places of the cube at order d. In its product, a is the refreshed square and b is x.
@@ -67,11 +77,13 @@ pub fn cube(lines: &mut Lines, d: Order)
 {
     let n = d.shares();
     lines.each(n, print_square);
-    pairs(lines, n, print_square);
+    pairs(lines, Of::Squares, n);
     listing::places::product(lines, d);
 }
 
 #[tactic(auto, using(crate::proofs::CubeCounts::cube_count_bound))]
-pub fn print(d: Order, sheet: &[u8]) {
-    cube(&mut Lines::new(sheet), d);
+pub fn print(d: usize, sheet: &[u8]) {
+    if d <= 8 {
+        cube(&mut Lines::new(sheet), Order::new(d));
+    }
 }

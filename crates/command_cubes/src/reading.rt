@@ -9,7 +9,7 @@ use text::answers::Table;
 const FIRST: usize = 5;
 
 // The list is read with an output as long. Kept beside its twin for a product, whose line says why.
-pub fn run<R: Env>(rt: &R, order: usize, shares: &[u8], tape: &[u32]) -> Result<(), Stop> {
+pub fn run<R: Env>(rt: &R, order: usize, shares: &[u8], tape: &[u32]) -> Result<(), Stop<'static>> {
     let mut room = place_list::buffer();
     let list = place_list::read(rt, FIRST, &mut room)?;
     answers::print_call(list.len(), Table::Cube, |output| {

@@ -37,18 +37,18 @@ pub fn count<R: Env>(rt: &R) -> usize {
 }
 
 // Argument i as a number.
-pub fn number<R: Env>(rt: &R, i: usize, name: &'static str) -> Result<usize, Fault> {
+pub fn number<'n, R: Env>(rt: &R, i: usize, name: &'n [u8]) -> Result<usize, Fault<'n>> {
     let mut room = io::buffer();
     decimal::read(word(rt, i, &mut room)).ok_or(Fault::NotDecimal(name))
 }
 
 // Argument i as hexadecimal digits.
-pub fn digits<'a, R: Env>(
+pub fn digits<'a, 'n, R: Env>(
     rt: &R,
     i: usize,
-    name: &'static str,
+    name: &'n [u8],
     room: &'a mut [u8],
-) -> Result<&'a [u8], Fault>
+) -> Result<&'a [u8], Fault<'n>>
     ensures { IfOk result (λ text. length text.now ≤ length room.old) }
 {
     let Ok(n) = rt.arg(i, room) else {
@@ -62,7 +62,12 @@ pub fn digits<'a, R: Env>(
 }
 
 // How many entries something of that size has, so many characters each: it is a whole number, for which there is room.
-pub fn counted(size: usize, each: usize, room: usize, name: &'static str) -> Result<usize, Fault>
+pub fn counted<'n>(
+    size: usize,
+    each: usize,
+    room: usize,
+    name: &'n [u8],
+) -> Result<usize, Fault<'n>>
     requires { 1 ≤ each }
     ensures { IfOk result (λ count. Whole size each room count) }
 {
@@ -76,7 +81,7 @@ pub fn counted(size: usize, each: usize, room: usize, name: &'static str) -> Res
 }
 
 // The bytes that text is in hexadecimal, at the front of out.
-fn decoded(text: &[u8], name: &'static str, out: &mut [u8]) -> Result<usize, Fault>
+fn decoded<'n>(text: &[u8], name: &'n [u8], out: &mut [u8]) -> Result<usize, Fault<'n>>
     ensures { Filled (Hexadecimal.bytes text.now) (length text.now) 2 out.old out.new result }
 {
     let n = counted(text.len(), 2, out.len(), name)?;
@@ -85,12 +90,12 @@ fn decoded(text: &[u8], name: &'static str, out: &mut [u8]) -> Result<usize, Fau
 }
 
 // Argument i as bytes.
-pub fn bytes<'a, R: Env>(
+pub fn bytes<'a, 'n, R: Env>(
     rt: &R,
     i: usize,
-    name: &'static str,
+    name: &'n [u8],
     room: &'a mut [u8],
-) -> Result<&'a [u8], Fault>
+) -> Result<&'a [u8], Fault<'n>>
     ensures { IfOk result (λ bytes. length bytes.now ≤ length room.old) }
 {
     let mut wide = wide_buffer();

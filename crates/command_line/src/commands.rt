@@ -25,7 +25,7 @@ pub enum Command {
 }
 
 // Whether a line has as many words as it must.
-pub fn has_words(count: usize, wanted: usize) -> Result<(), Fault> {
+pub fn has_words(count: usize, wanted: usize) -> Result<(), Fault<'static>> {
     match count.cmp(&wanted) {
         Ordering::Less => Err(Fault::Missing),
         Ordering::Equal => Ok(()),
@@ -81,7 +81,7 @@ impl Command {
 
     // Whether a line of that many words has the command's arguments. How many follow, `places`, `read`, `read-cube` and `preview` find out for
     // themselves.
-    pub fn is_whole(self, count: usize) -> Result<(), Fault> {
+    pub fn is_whole(self, count: usize) -> Result<(), Fault<'static>> {
         let wanted = self.words();
         match self {
             Command::Places | Command::Read | Command::ReadCube | Command::Preview

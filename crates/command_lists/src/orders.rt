@@ -23,18 +23,18 @@ fn key_words(size: usize) -> Result<KeyWords, Cause>
 }
 
 // ORDER, argument i.
-// Kept: a number, of which the caller makes an `Order`. The check has no rule yet for a `?` where the `Result` has an `Order` or a `Stop`.
-pub fn served_order<R: Env>(rt: &R, i: usize) -> Result<usize, Stop>
+// Kept: a number, as the listings of a product and of the cube take it. Who needs an `Order` makes it of that.
+pub fn served_order<R: Env>(rt: &R, i: usize) -> Result<usize, Stop<'static>>
     ensures { IfOk result (λ d. d ≤ 8) }
 {
-    Ok(served(arguments::number(rt, i, "ORDER")?)?)
+    Ok(served(arguments::number(rt, i, b"ORDER")?)?)
 }
 
 // ORDER, argument i, and the size of a key of KEYBYTES, the argument behind it. Both are read before either is looked at.
-pub fn served_call<R: Env>(rt: &R, i: usize) -> Result<(usize, KeyWords), Stop>
+pub fn served_call<R: Env>(rt: &R, i: usize) -> Result<(usize, KeyWords), Stop<'static>>
     ensures { IfOk result (λ call. call.0 ≤ 8) }
 {
-    let order = arguments::number(rt, i, "ORDER")?;
-    let size = arguments::number(rt, i.wrapping_add(1), "KEYBYTES")?;
+    let order = arguments::number(rt, i, b"ORDER")?;
+    let size = arguments::number(rt, i.wrapping_add(1), b"KEYBYTES")?;
     Ok((served(order)?, key_words(size)?))
 }

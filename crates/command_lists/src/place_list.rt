@@ -13,13 +13,17 @@ pub fn buffer() -> [u16; 256]
 }
 
 // A place number.
-fn listed<R: Env>(rt: &R, i: usize) -> Result<u16, Fault> {
-    let place = arguments::number(rt, i, "PLACE")?;
+fn listed<R: Env>(rt: &R, i: usize) -> Result<u16, Fault<'static>> {
+    let place = arguments::number(rt, i, b"PLACE")?;
     u16::try_from(place).map_err(|_| Fault::HighPlace)
 }
 
 // The places that the arguments from `first` on name. None is read behind one that could not be.
-pub fn read<'a, R: Env>(rt: &R, first: usize, room: &'a mut [u16; 256]) -> Result<&'a [u16], Fault>
+pub fn read<'a, R: Env>(
+    rt: &R,
+    first: usize,
+    room: &'a mut [u16; 256],
+) -> Result<&'a [u16], Fault<'static>>
     ensures { IfOk result (λ list. length list.now ≤ 256) }
 {
     let n = arguments::count(rt).wrapping_sub(first);

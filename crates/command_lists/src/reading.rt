@@ -16,7 +16,7 @@ pub fn run<R: Env>(
     left: &[u8],
     right: &[u8],
     tape: &[u32],
-) -> Result<(), Stop> {
+) -> Result<(), Stop<'static>> {
     let mut room = place_list::buffer();
     let list = place_list::read(rt, FIRST, &mut room)?;
     answers::print_call(list.len(), Table::Document01, |output| {

@@ -7,19 +7,19 @@ use gf256::Direction;
 use outcomes::Order;
 use std::env::Env;
 
-fn of_product<R: Env>(rt: &R) -> Result<(), Stop> {
+fn of_product<R: Env>(rt: &R) -> Result<(), Stop<'static>> {
     has_words(arguments::count(rt), 3)?;
     command_lists::places::run(rt)
 }
 
-fn of_box<R: Env>(rt: &R, w: Direction) -> Result<(), Stop> {
+fn of_box<R: Env>(rt: &R, w: Direction) -> Result<(), Stop<'static>> {
     has_words(arguments::count(rt), 4)?;
     let order = orders::served_order(rt, 3)?;
     box_listing::boxes::print(w, Order::new(order));
     Ok(())
 }
 
-fn of_call<R: Env>(rt: &R, w: Direction) -> Result<(), Stop> {
+fn of_call<R: Env>(rt: &R, w: Direction) -> Result<(), Stop<'static>> {
     has_words(arguments::count(rt), 5)?;
     let (order, key) = orders::served_call(rt, 3)?;
     call_listing::call::print(w, key, Order::new(order));
@@ -27,7 +27,7 @@ fn of_call<R: Env>(rt: &R, w: Direction) -> Result<(), Stop> {
 }
 
 // A first argument that the room does not hold is read as empty, and names none of the forms.
-pub fn run<R: Env>(rt: &R) -> Result<(), Stop> {
+pub fn run<R: Env>(rt: &R) -> Result<(), Stop<'static>> {
     let mut room = io::buffer();
     match arguments::word(rt, 2, &mut room) {
         b"box" => of_box(rt, Direction::Forward),

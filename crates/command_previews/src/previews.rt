@@ -42,10 +42,10 @@ impl Route {
     }
 
     // The name of the length of the key's shares, or of the prepared keys; and the words of a refusal.
-    fn key(self) -> (&'static str, Table) {
+    fn key(self) -> (&'static [u8], Table) {
         match self {
-            Route::EncryptPrepared => ("PREPAREDLEN", Table::PreparedKeys),
-            _ => ("KEYLEN", Table::Document01),
+            Route::EncryptPrepared => (b"PREPAREDLEN", Table::PreparedKeys),
+            _ => (b"KEYLEN", Table::Document01),
         }
     }
 }
@@ -71,23 +71,23 @@ fn foretold(
 }
 
 // The lengths behind the key's begin with INPUTLEN, where the call has an input.
-fn with_lengths<R: Env>(rt: &R, route: Route) -> Result<(), Stop> {
+fn with_lengths<R: Env>(rt: &R, route: Route) -> Result<(), Stop<'static>> {
     let (name, table) = route.key();
-    let order = arguments::number(rt, 3, "ORDER")?;
+    let order = arguments::number(rt, 3, b"ORDER")?;
     let key = arguments::number(rt, 4, name)?;
     let (input, behind) = if route.has_input() {
-        (arguments::number(rt, 5, "INPUTLEN")?, 6)
+        (arguments::number(rt, 5, b"INPUTLEN")?, 6)
     } else {
         (0, 5)
     };
-    let tape = arguments::number(rt, behind, "TAPELEN")?;
-    let output = arguments::number(rt, behind + 1, "OUTPUTLEN")?;
+    let tape = arguments::number(rt, behind, b"TAPELEN")?;
+    let output = arguments::number(rt, behind + 1, b"OUTPUTLEN")?;
     let count = answers::counted(foretold(route, order, key, input, tape, output), table)?;
     answers::print_taken(count);
     Ok(())
 }
 
-pub fn run<R: Env>(rt: &R) -> Result<(), Stop> {
+pub fn run<R: Env>(rt: &R) -> Result<(), Stop<'static>> {
     let mut room = io::buffer();
     let route = Route::named(arguments::word(rt, 2, &mut room)).ok_or(Fault::UnknownRoute)?;
     has_words(arguments::count(rt), if route.has_input() { 8 } else { 7 })?;

@@ -19,25 +19,25 @@ pub fn buffer() -> [u32; 16384]
 }
 
 // The words that text is in hexadecimal, at the front of out.
-fn decoded(text: &[u8], out: &mut [u32]) -> Result<usize, Fault>
+fn decoded(text: &[u8], out: &mut [u32]) -> Result<usize, Fault<'static>>
     ensures { Filled (Hexadecimal.words text.now) (length text.now) 8 out.old out.new result }
 {
-    let n = arguments::counted(text.len(), 8, out.len(), "TAPE")?;
+    let n = arguments::counted(text.len(), 8, out.len(), b"TAPE")?;
     hexadecimal::fill_words(text, &mut out[..n]);
     Ok(n)
 }
 
 // The words of raw bytes, at the front of out.
-fn packed(bytes: &[u8], out: &mut [u32]) -> Result<usize, Fault>
+fn packed(bytes: &[u8], out: &mut [u32]) -> Result<usize, Fault<'static>>
     ensures { Filled (Packing.packed bytes.now) (length bytes.now) 4 out.old out.new result }
 {
-    let n = arguments::counted(bytes.len(), 4, out.len(), "TAPE")?;
+    let n = arguments::counted(bytes.len(), 4, out.len(), b"TAPE")?;
     packing::pack(bytes, &mut out[..n]);
     Ok(n)
 }
 
 // Standard input as it is. One read past what came tells the end from a failure, and from more than there is room for.
-fn raw<'a, R: Input>(rt: &R, room: &'a mut [u8]) -> Result<&'a [u8], Fault>
+fn raw<'a, R: Input>(rt: &R, room: &'a mut [u8]) -> Result<&'a [u8], Fault<'static>>
     ensures { IfOk result (λ bytes. length bytes.now ≤ length room.old) }
 {
     let mut past = [0u8; 1];
@@ -45,19 +45,19 @@ fn raw<'a, R: Input>(rt: &R, room: &'a mut [u8]) -> Result<&'a [u8], Fault>
     let mut input = rt.reader();
     match input.read(&mut past) {
         Ok(0) => Ok(&room[..n]),
-        Ok(_) => Err(Fault::Long("TAPE", room.len() / 4, 4)),
+        Ok(_) => Err(Fault::Long(b"TAPE", room.len() / 4, 4)),
         Err(_) => Err(Fault::UnreadableTape),
     }
 }
 
-fn from_digits<R: Env>(rt: &R, i: usize, out: &mut [u32]) -> Result<usize, Fault>
+fn from_digits<R: Env>(rt: &R, i: usize, out: &mut [u32]) -> Result<usize, Fault<'static>>
     ensures { IfOk result (λ n. n ≤ length out.new) }
 {
     let mut wide = arguments::wide_buffer();
-    decoded(arguments::digits(rt, i, "TAPE", &mut wide)?, out)
+    decoded(arguments::digits(rt, i, b"TAPE", &mut wide)?, out)
 }
 
-fn from_input<R: Input>(rt: &R, out: &mut [u32]) -> Result<usize, Fault>
+fn from_input<R: Input>(rt: &R, out: &mut [u32]) -> Result<usize, Fault<'static>>
     ensures { IfOk result (λ n. n ≤ length out.new) }
 {
     let mut bytes = io::large_buffer();
@@ -65,7 +65,11 @@ fn from_input<R: Input>(rt: &R, out: &mut [u32]) -> Result<usize, Fault>
 }
 
 // Argument i as a tape. Where it has more than one character, it is none that fits, and so no `-`.
-pub fn read<'a, R: Env + Input>(rt: &R, i: usize, room: &'a mut [u32]) -> Result<&'a [u32], Fault>
+pub fn read<'a, R: Env + Input>(
+    rt: &R,
+    i: usize,
+    room: &'a mut [u32],
+) -> Result<&'a [u32], Fault<'static>>
     ensures { IfOk result (λ tape. length tape.now ≤ length room.old) }
 {
     let n = match arguments::word(rt, i, &mut [0u8; 1]) {

@@ -2,20 +2,19 @@
 use command_calls::routines;
 use command_line::arguments;
 use command_line::commands::Command;
-use command_line::faults::Fault;
 use command_line::stops::Stop;
 use command_lists::{reading, sheet};
 use std::env::Env;
 
 // The name of the first input, and of the second where there is one.
-fn inputs(c: Command) -> (&'static str, Option<&'static str>) {
+fn inputs(c: Command) -> (&'static [u8], Option<&'static [u8]>) {
     match c {
-        Command::Encrypt | Command::Decrypt => ("KEYSHARES", Some("INPUTSHARES")),
-        Command::EncryptPrepared => ("PREPARED", Some("INPUTSHARES")),
-        Command::Prepare => ("KEYSHARES", None),
-        Command::Split => ("INPUT", None),
-        Command::Product | Command::Sheet | Command::Read => ("LEFT", Some("RIGHT")),
-        _ => ("SHARES", None),
+        Command::Encrypt | Command::Decrypt => (b"KEYSHARES", Some(b"INPUTSHARES")),
+        Command::EncryptPrepared => (b"PREPARED", Some(b"INPUTSHARES")),
+        Command::Prepare => (b"KEYSHARES", None),
+        Command::Split => (b"INPUT", None),
+        Command::Product | Command::Sheet | Command::Read => (b"LEFT", Some(b"RIGHT")),
+        _ => (b"SHARES", None),
     }
 }
 
@@ -26,7 +25,7 @@ fn run_on<R: Env>(
     first: &[u8],
     second: &[u8],
     tape: &[u32],
-) -> Result<(), Stop> {
+) -> Result<(), Stop<'static>> {
     match c {
         Command::Read => reading::run(rt, order, first, second, tape),
         Command::Sheet => sheet::run(order, first, second, tape),
@@ -36,40 +35,42 @@ fn run_on<R: Env>(
     }
 }
 
-// The second input, which is empty where there is none.
-fn second_input<'a, R: Env>(
-    rt: &R,
-    name: Option<&'static str>,
-    room: &'a mut [u8],
-) -> Result<&'a [u8], Fault> {
-    match name {
-        Some(name) => arguments::bytes(rt, 4, name, room),
-        None => Ok(&[]),
-    }
-}
-
-// The tape is argument i. Joining draws nothing.
-fn tape<'a, R: Env + Input>(
+// The tape is argument i. Its room is made only here, behind all that may end the run before it.
+fn with_inputs<R: Env + Input>(
     rt: &R,
     c: Command,
+    order: usize,
+    first: &[u8],
+    second: &[u8],
     i: usize,
-    room: &'a mut [u32],
-) -> Result<&'a [u32], Fault> {
-    match c {
-        Command::Join => Ok(&[]),
-        _ => command_tape::read(rt, i, room),
-    }
+) -> Result<(), Stop<'static>> {
+    let mut words = command_tape::buffer();
+    let tape = command_tape::read(rt, i, &mut words)?;
+    run_on(rt, c, order, first, second, tape)
 }
 
-pub fn run<R: Env + Input>(rt: &R, c: Command) -> Result<(), Stop> {
+// The second input has that name.
+fn with_first<R: Env + Input>(
+    rt: &R,
+    c: Command,
+    order: usize,
+    first: &[u8],
+    name: &'static [u8],
+) -> Result<(), Stop<'static>> {
+    let mut room = io::buffer();
+    let second = arguments::bytes(rt, 4, name, &mut room)?;
+    with_inputs(rt, c, order, first, second, 5)
+}
+
+// Joining draws nothing, and so has no tape.
+pub fn run<R: Env + Input>(rt: &R, c: Command) -> Result<(), Stop<'static>> {
     let (first_name, second_name) = inputs(c);
-    let mut first_room = io::buffer();
-    let mut second_room = io::buffer();
-    let mut words = command_tape::buffer();
-    let order = arguments::number(rt, 2, "ORDER")?;
-    let first = arguments::bytes(rt, 3, first_name, &mut first_room)?;
-    let second = second_input(rt, second_name, &mut second_room)?;
-    let behind = if second_name.is_some() { 5 } else { 4 };
-    let tape = tape(rt, c, behind, &mut words)?;
-    run_on(rt, c, order, first, second, tape)
+    let order = arguments::number(rt, 2, b"ORDER")?;
+    let mut room = io::buffer();
+    let first = arguments::bytes(rt, 3, first_name, &mut room)?;
+    match (c, second_name) {
+        (Command::Join, _) => run_on(rt, c, order, first, &[], &[]),
+        (_, Some(name)) => with_first(rt, c, order, first, name),
+        (_, None) => with_inputs(rt, c, order, first, &[], 4),
+    }
 }

@@ -17,7 +17,7 @@ use command_places::places;
 use command_previews::previews;
 use std::env::Env;
 
-fn run_command<R: Env + Input>(rt: &R, c: Command) -> Result<(), Stop> {
+fn run_command<R: Env + Input>(rt: &R, c: Command) -> Result<(), Stop<'static>> {
     match c {
         Command::Places => places::run(rt),
         Command::CubePlaces => command_cubes::places::run(rt),
@@ -32,7 +32,7 @@ fn run_command<R: Env + Input>(rt: &R, c: Command) -> Result<(), Stop> {
 }
 
 // A first argument that the room does not hold is read as empty, and names no command.
-fn run<R: Env + Input>(rt: &R) -> Result<(), Stop> {
+fn run<R: Env + Input>(rt: &R) -> Result<(), Stop<'static>> {
     let count = arguments::count(rt);
     if count < 2 {
         help::print();

@@ -80,6 +80,8 @@ pub fn product(lines: &mut Lines, d: Order)
 }
 
 #[tactic(auto, using(crate::proofs::CountLaws::place_count_bound))]
-pub fn print(d: Order, sheet: &[u8]) {
-    product(&mut Lines::new(sheet), d);
+pub fn print(d: usize, sheet: &[u8]) {
+    if d <= 8 {
+        product(&mut Lines::new(sheet), Order::new(d));
+    }
 }

@@ -31,22 +31,23 @@ impl From<Refusal> for Cause {
     }
 }
 
+// Its whole line, in one text: so it is one write, and whole on a pipe that several processes share.
 impl fmt::Display for Cause {
     fn fmt<W: fmt::Write>(&self, f: &mut fmt::Formatter<W>) -> fmt::Result {
         f.write_str(match (self.refusal, self.table) {
-            (Refusal::Order, _) => "1: order is 0 or above 8",
+            (Refusal::Order, _) => "refused 1: order is 0 or above 8\n",
             (Refusal::Key, Table::PreparedKeys) => {
-                "2: prepared length isn't n·176, n·208 or n·240"
+                "refused 2: prepared length isn't n·176, n·208 or n·240\n"
             }
-            (Refusal::Key, _) => "2: key share length isn't n·16, n·24 or n·32",
-            (Refusal::Input, _) => "3: an input's length doesn't fit",
-            (Refusal::Output, _) => "4: output length isn't the one required",
-            (Refusal::Tape, _) => "5: tape shorter than the call needs",
-            (Refusal::List, _) => "6: place list longer than d",
+            (Refusal::Key, _) => { "refused 2: key share length isn't n·16, n·24 or n·32\n" }
+            (Refusal::Input, _) => "refused 3: an input's length doesn't fit\n",
+            (Refusal::Output, _) => "refused 4: output length isn't the one required\n",
+            (Refusal::Tape, _) => "refused 5: tape shorter than the call needs\n",
+            (Refusal::List, _) => "refused 6: place list longer than d\n",
             (Refusal::Place, Table::Cube) => {
-                "7: some listed place number isn't below the cube's number of places"
+                "refused 7: some listed place number isn't below the cube's number of places\n"
             }
-            (Refusal::Place, _) => "7: some listed place number isn't below P(d)",
+            (Refusal::Place, _) => { "refused 7: some listed place number isn't below P(d)\n" }
         })
     }
 }
