@@ -87,12 +87,12 @@ impl<'a> Line<'a> {
         out
     }
 
-    // What the line asks for: the words in front of what it wants.
+    // What the line asks for: the words in front of what it wants, and the space behind them, in one write.
     pub fn print_asked(self) {
-        for w in &WORDS[..6] {
-            text::print(self.word(*w));
-            text::print(b" ");
-        }
+        let mut words = self.text.splitn(7, |c| *c == b' ');
+        let rest = words.nth(6).unwrap_or(&[]);
+        let n = self.text.len().saturating_sub(rest.len());
+        text::print(&self.text[..n]);
     }
 }
 

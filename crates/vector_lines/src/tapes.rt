@@ -6,7 +6,7 @@ use text::packing;
 
 // The bytes of tape 0 are all zero, those of tape 1 all ff; any other number starts the generator xorshift32, which gives its low bytes. The
 // generator stays at 0.
-fn fill(number: usize, tape: &mut [u8]) {
+pub fn fill(number: usize, tape: &mut [u8]) {
     let (mut x, mask) = match number {
         1 => (0, 0xff),
         _ => ((number % 4294967296) as u32, 0),

@@ -1,7 +1,7 @@
 // The routes of a block in shares through the library: encryption by the single call; encryption by two calls, which prepare the key and start from
 // the prepared keys, and which by document 02, wish 1, give the same shares; decryption; and the round trip of wish 2 at one order, which
 // decrypts the shares of an encryption.
-ghost use Rattle.std.specs.Prelude.{◌≡◌, ◌*◌, ◌<◌, ◌≤◌, ◌⊎◌, IfSome, MatchOption, length, suc};
+ghost use Rattle.std.specs.Prelude.{◌≡◌, ◌+◌, ◌*◌, ◌<◌, ◌≤◌, ◌⊎◌, IfSome, MatchOption, length, suc};
 
 use vector_lines::answers;
 use vector_lines::answers::{Came, Failure};
@@ -36,7 +36,9 @@ fn front(room: &mut [u8], n: Option<usize>) -> &mut [u8]
 }
 
 // How long the round keys are of a key of that length in shares: 16·(Nk + 7) bytes for each 4·Nk of a share. No key in shares has more than 288.
-fn expanded(order: usize, length: usize) -> Option<usize> {
+fn expanded(order: usize, length: usize) -> Option<usize>
+    ensures { MatchOption result ((288 < length) ⊎ (8 < order)) (λ n. (n ≡ 4 * length + suc order * 112) × (n ≤ 4096)) }
+{
     if 288 < length {
         return None;
     }
