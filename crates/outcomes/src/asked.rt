@@ -15,6 +15,7 @@ pub fn served(order: usize) -> bool
 }
 
 // How many shares a byte has at that order, and 0 where the order is not served.
+// Kept: a number. A call asks all its tests with it, and they look at it only behind the order's own.
 pub fn share_count(order: usize) -> usize
     ensures { (Outcome.served order ≡ true → result ≡ suc order) × (result ≤ 9) }
 {
