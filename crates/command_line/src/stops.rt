@@ -22,7 +22,7 @@ impl<'a> From<Cause> for Stop<'a> {
     }
 }
 
-// The name of the argument, as its reader gave it; of the other faults it stands in their words.
+// The name of the argument, as its reader gave it. The other faults have none, or have it in their words.
 fn name<'a>(fault: Fault<'a>) -> &'a [u8] {
     match fault {
         Fault::NotDecimal(name) | Fault::NotHexadecimal(name) => name,

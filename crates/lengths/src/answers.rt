@@ -1,6 +1,6 @@
 // The tests that decide a call's answer, on the order and the buffers' lengths alone: all of them (`.._answer`), and those behind the order's own
-// (`.._tested`). The calls and their previews ask `.._answer`, so the order of the tests stands once. Document 01's table decides it; for prepared keys
-// document 02, wish 1, and for previews wish 4.
+// (`.._tested`). The calls and their previews ask `.._answer`, so the order of the tests stands once. Document 01's table decides it; for prepared
+// keys document 02, wish 1, and for previews wish 4.
 // Lengths are any numbers: they are compared, and nothing is computed with them. The tape's is in words, and needs are rounded up to words here.
 ghost use Rattle.std.specs.Prelude.{◌≡◌};
 ghost use Rattle.outcomes.specs.Outcome.{answered, took};
