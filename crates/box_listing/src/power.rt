@@ -45,7 +45,7 @@ fn second_stage(lines: &mut Lines, d: Order)
     let n = d.shares();
     text::print(b"q = y to the 4; w = q refreshed\n");
     groups::powers(lines, b"y_", n, 3);
-    names::pairs(lines, Of::Fourths, n);
+    names::refresh(lines, Of::Fourths, n);
     times(
         lines,
         d,

@@ -38,15 +38,22 @@ fn print_draw(i: usize, j: usize) {
     }
 }
 
-// Share i and the first m draws that it takes in, as `^t(0,1)`.
-fn print_sum(of: Of, i: usize, m: usize)
+// The first m draws that share i takes in, as `^t(0,1)`.
+fn print_draws(i: usize, m: usize)
     requires { m ≤ 8 }
 {
-    print_share(of, i);
     for t in 0..m {
         text::print(b"^");
         print_draw(i, masking::steps::skip(i, t));
     }
+}
+
+// Share i and the first m draws that it takes in.
+fn print_sum(of: Of, i: usize, m: usize)
+    requires { m ≤ 8 }
+{
+    print_share(of, i);
+    print_draws(i, m);
 }
 
 // The name of place k of the three of a pair i < j. By then share i has taken in j draws, those with the shares up to j, and share j those with the
@@ -62,11 +69,42 @@ fn print_of_pair(of: Of, i: usize, j: usize, k: usize)
 }
 
 // The places of a refresh of n shares.
-pub fn pairs(lines: &mut Lines, of: Of, n: usize)
+pub fn refresh(lines: &mut Lines, of: Of, n: usize)
     requires { (n ≤ 9) × (lines.old.next + 3 * pair_count n ≤ most) }
     ensures { lines.new.next ≡ lines.old.next + 3 * pair_count n }
 {
     lines.each_pair(n, 3, |i, j, k| print_of_pair(of, i, j, k));
+}
+
+// Share i, as `share` prints it, and the first m draws that it takes in.
+fn print_named_sum<F: Fn(usize)>(share: &F, i: usize, m: usize)
+    requires taken { m ≤ 8 }
+    requires named { F.IsAlwaysCallable share.now }
+{
+    share(i);
+    print_draws(i, m);
+}
+
+// The name of place k of the three of a pair, as above.
+fn print_named_pair<F: Fn(usize)>(share: &F, i: usize, j: usize, k: usize)
+    requires pair { (i < j) × (j ≤ 8) }
+    requires named { F.IsAlwaysCallable share.now }
+{
+    match k {
+        0 => print_draw(i, j),
+        1 => print_named_sum(share, i, j),
+        _ => print_named_sum(share, j, i + 1),
+    }
+}
+
+// The same of shares whose names `share` prints, for a listing of others than `Of` has.
+pub fn pairs<F: Fn(usize)>(lines: &mut Lines, n: usize, share: F)
+    requires shares { n ≤ 9 }
+    requires room { lines.old.next + 3 * pair_count n ≤ most }
+    requires named { F.IsAlwaysCallable share }
+    ensures { lines.new.next ≡ lines.old.next + 3 * pair_count n }
+{
+    lines.each_pair(n, 3, |i, j, k| print_named_pair(&share, i, j, k));
 }
 
 // All places of the cube at order d. In its product, a is the refreshed square and b is x.
@@ -77,7 +115,7 @@ pub fn cube(lines: &mut Lines, d: Order)
 {
     let n = d.shares();
     lines.each(n, print_square);
-    pairs(lines, Of::Squares, n);
+    refresh(lines, Of::Squares, n);
     listing::places::product(lines, d);
 }
 

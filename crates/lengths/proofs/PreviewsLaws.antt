@@ -17,7 +17,7 @@ use Rattle.outcomes.proofs.OutcomeLaws.{Passed, ◌and◌, answered_here, answer
 use Rattle.tape_words.specs.Words.{words_for}
 use Rattle.cipher.specs.Cipher.{schedule_need}
 use Rattle.lengths.specs.Lengths.{key_words, prepared_length}
-use Rattle.lengths.specs.Previews.{keyed, keyed_served, block_tests, preparation_tests}
+use Rattle.lengths.specs.Previews.{keyed, keyed_served, block_tests, preparation_served, preparation_tests}
 
 -- ---- the order and the key, as the code tests them: nk words were found
 
@@ -53,7 +53,26 @@ module _ (nk : ℕ) (ts : List Test) (k : Count) where
 
 -- ---- a call that is let through
 
--- for a block, with a key of nk words
+-- for a block, with a key of nk words: by the tests behind the order's, at any order
+pub record BlockServed (nk need d x t o : ℕ) : Type 0 where
+  pub some : 0 < nk
+  pub input : x ≡ suc d * 16
+  pub output : o ≡ suc d * 16
+  pub drawn : need ≤ t
+
+pub block_served-passed : (nk need d x t o : ℕ) → Passed (keyed_served nk (block_tests need d x t o)) → BlockServed nk need d x t o
+block_served-passed nk need d x t o (y and i and r and n and p) = record {
+  some = ltb-true 0 nk y;
+  input = eqb-true x (suc d * 16) i;
+  output = eqb-true o (suc d * 16) r;
+  drawn = reaches_le t need n;
+}
+
+pub block_served-through : (nk need d x t o : ℕ) (a : Answer) (k c : Count) → a ≡ answered (keyed_served nk (block_tests need d x t o)) k → a ≡ Ok c
+    → BlockServed nk need d x t o
+block_served-through nk need d x t o a k c e f = block_served-passed nk need d x t o (answered-taken _ k c (sym e ∙ f)).0
+
+-- by all of them
 pub record BlockThrough (nk need d x t o : ℕ) : Type 0 where
   pub served_order : served d ≡ true
   pub order : d ≤ 8
@@ -63,20 +82,31 @@ pub record BlockThrough (nk need d x t o : ℕ) : Type 0 where
   pub drawn : need ≤ t
 
 pub block_passed : (nk need d x t o : ℕ) → Passed (keyed d nk (block_tests need d x t o)) → BlockThrough nk need d x t o
-block_passed nk need d x t o (u and y and i and r and n and p) = record {
-  served_order = u;
-  order = (served_bounds d u).1;
-  some = ltb-true 0 nk y;
-  input = eqb-true x (suc d * 16) i;
-  output = eqb-true o (suc d * 16) r;
-  drawn = reaches_le t need n;
-}
+block_passed nk need d x t o (u and p) =
+    let s = block_served-passed nk need d x t o p in
+    record { served_order = u; order = (served_bounds d u).1; some = s.some; input = s.input; output = s.output; drawn = s.drawn }
 
 pub block_through : (nk need d x t o : ℕ) (a : Answer) (k c : Count) → a ≡ answered (keyed d nk (block_tests need d x t o)) k → a ≡ Ok c
     → BlockThrough nk need d x t o
 block_through nk need d x t o a k c e f = block_passed nk need d x t o (answered-taken _ k c (sym e ∙ f)).0
 
--- for a preparation
+-- for a preparation, likewise
+pub record PreparationServed (d k t o : ℕ) : Type 0 where
+  pub some : 0 < key_words d k
+  pub output : o ≡ prepared_length (key_words d k) d
+  pub drawn : words_for (schedule_need (key_words d k) d) ≤ t
+
+pub preparation_served-passed : (d k t o : ℕ) → Passed (preparation_served d k t o) → PreparationServed d k t o
+preparation_served-passed d k t o (y and r and n and p) = record {
+  some = ltb-true 0 (key_words d k) y;
+  output = eqb-true o (prepared_length (key_words d k) d) r;
+  drawn = reaches_le t (words_for (schedule_need (key_words d k) d)) n;
+}
+
+pub preparation_served-through : (d k t o : ℕ) (a : Answer) (n c : Count) → a ≡ answered (preparation_served d k t o) n → a ≡ Ok c
+    → PreparationServed d k t o
+preparation_served-through d k t o a n c e f = preparation_served-passed d k t o (answered-taken _ n c (sym e ∙ f)).0
+
 pub record PreparationThrough (d k t o : ℕ) : Type 0 where
   pub served_order : served d ≡ true
   pub order : d ≤ 8
@@ -85,13 +115,9 @@ pub record PreparationThrough (d k t o : ℕ) : Type 0 where
   pub drawn : words_for (schedule_need (key_words d k) d) ≤ t
 
 pub preparation_passed : (d k t o : ℕ) → Passed (preparation_tests d k t o) → PreparationThrough d k t o
-preparation_passed d k t o (u and y and r and n and p) = record {
-  served_order = u;
-  order = (served_bounds d u).1;
-  some = ltb-true 0 (key_words d k) y;
-  output = eqb-true o (prepared_length (key_words d k) d) r;
-  drawn = reaches_le t (words_for (schedule_need (key_words d k) d)) n;
-}
+preparation_passed d k t o (u and p) =
+    let s = preparation_served-passed d k t o p in
+    record { served_order = u; order = (served_bounds d u).1; some = s.some; output = s.output; drawn = s.drawn }
 
 pub preparation_through : (d k t o : ℕ) (a : Answer) (n c : Count) → a ≡ answered (preparation_tests d k t o) n → a ≡ Ok c
     → PreparationThrough d k t o

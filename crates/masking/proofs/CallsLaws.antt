@@ -34,7 +34,28 @@ pub factors_answered : (room' room d a b t o : ℕ) (k : Count) (q : Answer) →
 factors_answered room' room d a b t o k q same e =
     e ∙ answered-behind Order (served d) _ _ k (λ u. ap (λ (n : ℕ). factor_served n d a b t o) (same u))
 
--- a call that is let through
+-- the room that was found, of the tests behind the order's
+pub factors-room : {room' : ℕ} (room d a b t o : ℕ) (k : Count) (q : Answer) → room' ≡ room
+    → q ≡ answered (factor_served room' d a b t o) k → q ≡ answered (factor_served room d a b t o) k
+factors-room room d a b t o k q same e = e ∙ ap (λ (n : ℕ). answered (factor_served n d a b t o) k) same
+
+-- a call that is let through by the tests behind the order's, at any order
+pub record FactorsServed (room d a b t o : ℕ) : Type 0 where
+  pub left : a ≡ suc d
+  pub right : b ≡ suc d
+  pub output : o ≡ room
+  pub drawn : words_for (product_need d) ≤ t
+
+pub factors_served-passed : (room d a b t o : ℕ) → Passed (factor_served room d a b t o) → FactorsServed room d a b t o
+factors_served-passed room d a b t o (i and r and n and p) =
+    let f = two_fit_lengths d a b i in
+    record { left = f.0; right = f.1; output = eqb-true o room r; drawn = reaches_le t _ n }
+
+pub factors_served-through : (room d a b t o : ℕ) (q : Answer) (k c : Count) → q ≡ answered (factor_served room d a b t o) k → q ≡ Ok c
+    → FactorsServed room d a b t o
+factors_served-through room d a b t o q k c e f = factors_served-passed room d a b t o (answered-taken _ k c (sym e ∙ f)).0
+
+-- by all of them
 pub record FactorsThrough (room d a b t o : ℕ) : Type 0 where
   pub order : d ≤ 8
   pub left : a ≡ suc d
@@ -43,9 +64,9 @@ pub record FactorsThrough (room d a b t o : ℕ) : Type 0 where
   pub drawn : words_for (product_need d) ≤ t
 
 pub factors_passed : (room d a b t o : ℕ) → Passed (factor_tests room d a b t o) → FactorsThrough room d a b t o
-factors_passed room d a b t o (u and i and r and n and p) =
-    let f = two_fit_lengths d a b i in
-    record { order = (served_bounds d u).1; left = f.0; right = f.1; output = eqb-true o room r; drawn = reaches_le t _ n }
+factors_passed room d a b t o (u and p) =
+    let s = factors_served-passed room d a b t o p in
+    record { order = (served_bounds d u).1; left = s.left; right = s.right; output = s.output; drawn = s.drawn }
 
 pub factors_through : (room d a b t o : ℕ) (q : Answer) (k c : Count) → q ≡ answered (factor_tests room d a b t o) k → q ≡ Ok c
     → FactorsThrough room d a b t o
