@@ -98,6 +98,7 @@ fn print_named_pair<F: Fn(usize)>(share: &F, i: usize, j: usize, k: usize)
 }
 
 // The same of shares whose names `share` prints, for a listing of others than `Of` has.
+// Kept beside `refresh`, with what they print by: what the commands run stays as it was when this came back (docs/LOOK-BACK.md).
 pub fn pairs<F: Fn(usize)>(lines: &mut Lines, n: usize, share: F)
     requires shares { n ≤ 9 }
     requires room { lines.old.next + 3 * pair_count n ≤ most }

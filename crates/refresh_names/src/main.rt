@@ -1,5 +1,5 @@
 // A test: lists a refresh of the shares s_0, s_1 and s_2. The commands list shares of two names only (`refresh` and `Of` of command_cubes), and
-// `pairs` takes any. The file stdout has the lines as document 02, wish 8, orders and names them.
+// `pairs` takes any. The file stdout has the lines in the order and form of document 02, wish 8.
 #![tactic(auto)]
 
 use command_cubes::names;
